@@ -1,0 +1,35 @@
+-- What tests that hold or fail say of their parts.
+use Prim.Native.Nat.{ℕ, _*_, _^_, _≤_, _<_}
+use mathlib.Core.Path.{_≡_, refl}
+use mathlib.Core.Bool.{Bool, true, false, _&&_, _||_}
+use mathlib.Core.Logic.{_⊎_, inl, inr}
+use native.Mathlib.Nat.{lt-of-le-of-lt, mul-le-mul}
+use native.Mathlib.Omega.{arith}
+use lib.Dec.{T, leb, ltb, lit<}
+use borrow.Author.Tests.{leb-true, leb-false}
+use mir.Syntax.{w64}
+use mir.Val.{Fits}
+
+pub both : (a b : Bool) → (a && b) ≡ true → (a ≡ true) × (b ≡ true)
+both true b e = (refl, e)
+both false b e = absurd (let z : _≡_ {A = ℕ} 0 1 = cc in omega arith)
+
+pub neither : (a b : Bool) → (a || b) ≡ false → (a ≡ false) × (b ≡ false)
+neither true b e = absurd (let z : _≡_ {A = ℕ} 0 1 = cc in omega arith)
+neither false b e = (refl, e)
+
+-- a test that does not hold is false
+pub fails : (a : Bool) → (a ≡ true → ⊥) → a ≡ false
+fails true h = absurd (h refl)
+fails false h = refl
+
+pub le-or-lt : (a b : ℕ) → (a ≤ b) ⊎ (b < a)
+le-or-lt a b = go (leb a b) refl
+  where
+    go : (t : Bool) → leb a b ≡ t → (a ≤ b) ⊎ (b < a)
+    go true e = inl (leb-true a b e)
+    go false e = inr (leb-false a b e)
+
+-- a product of bounded factors fits a word
+pub fits-mul : (A B : ℕ) {a b : ℕ} → a ≤ A → b ≤ B → T (ltb (A * B) (2 ^ 64)) → Fits w64 (a * b)
+fits-mul A B p q t = record { fits = lt-of-le-of-lt (mul-le-mul p q) (lit< t) }

@@ -1,0 +1,28 @@
+use native.Mathlib.Omega.{arith}
+use native.Mathlib.Nat.{mod-le, mod-lt}
+use Rattle.quotes.proofs.States.{mirror-by-remainder}
+use borrow.Author.Needs.{needs}
+use Rattle.quotes.proofs.inner.mirror_of.Statement.{statement}
+use Rattle.quotes.proofs.inner.mirror_of.Tie as tie
+
+rem-bucket : tie.Need-rem-bucket
+rem-bucket c = search needs
+
+sub-result : tie.Need-sub-result
+sub-result c = mod-le _ _
+
+sub-result-2 : tie.Need-sub-result-2
+sub-result-2 c = search needs
+
+sub-result-3 : tie.Need-sub-result-3
+sub-result-3 c = omega (arith, mod-lt (c .args .state) {m = c .args .n} (search needs))
+
+add-result : tie.Need-add-result
+add-result c = search needs
+
+returns : tie.Need-returns
+returns c = mirror-by-remainder _ _
+
+pub mirror-of-spec : {M : Type 1} → statement M
+mirror-of-spec =
+    tie.close (tie.spec rem-bucket sub-result sub-result-2 sub-result-3 add-result returns)

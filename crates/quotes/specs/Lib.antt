@@ -1,0 +1,6 @@
+pub mod Refusals
+pub mod Configuration
+pub mod Quotes
+pub mod States
+pub mod Neighbours
+pub mod Known
