@@ -8,7 +8,7 @@ use native.Mathlib.Nat.{le-refl, eq-or-lt-of-le, mod-lt, mul-le-mul-left, mul-le
 use lib.Dec.{leb}
 use borrow.Author.Tests.{le-leb, lt-leb}
 use Rattle.quotes.specs.States.{leastFrom, lowerBucket, bucketOf}
-use Rattle.quotes.proofs.Tests.{le-or-lt}
+use Rattle.basics.proofs.Tests.{le-or-lt}
 
 pick-le : (t : Bool) {a b n : ℕ} → a ≤ n → b ≤ n → cond t a b ≤ n
 pick-le true p q = p

@@ -8,13 +8,14 @@ use native.Mathlib.Nat.{le-mul-of-pos-right, mul-comm}
 use lib.Dec.{leb, ltb, eqb}
 use borrow.Author.Tests.{leb-true, ltb-false, leb-false, eqb-true, eqb-false, not-false}
 use Rattle.quotes.specs.Refusals.{refuseIf, firstOf}
+use Rattle.quotes.proofs.Refusals.{if-fine, first-fine}
 use Rattle.quotes.specs.Configuration.{most, shape, valid}
 use Rattle.quotes.specs.Quotes.{over, bad, onGrid, offTick, checkQuote}
 use Rattle.quotes.specs.Known.{Valid, Accepted}
 use Rattle.quotes.specs.declared.MicroPriceConfig.{MicroPriceConfig}
 use Rattle.quotes.specs.declared.TopOfBook.{TopOfBook}
 use Rattle.quotes.specs.declared.Check.the-variants.{Fine}
-use Rattle.quotes.proofs.Tests.{both, neither, fails}
+use Rattle.basics.proofs.Tests.{both, neither, fails}
 
 record Shaped (n s : ℕ) : Type 0 where
   n-least : 3 ≤ n
@@ -71,12 +72,6 @@ valid-known c e =
       gap-least = leb-true _ _ (a .1);
     }
 
-none-of : (a b d : Bool) (x y z : ℕ) → firstOf (refuseIf a x) (firstOf (refuseIf b y) (refuseIf d z)) ≡ Fine → (a ≡ false) × (b ≡ false) × (d ≡ false)
-none-of true b d x y z e = absurd (let n : _≡_ {A = ℕ} 0 1 = cc in omega arith)
-none-of false true d x y z e = absurd (let n : _≡_ {A = ℕ} 0 1 = cc in omega arith)
-none-of false false true x y z e = absurd (let n : _≡_ {A = ℕ} 0 1 = cc in omega arith)
-none-of false false false x y z e = (refl, refl, refl)
-
 some : (x y : ℕ) → (eqb x 0 && eqb y 0) ≡ false → 1 ≤ x + y
 some zero zero e = absurd (let n : _≡_ {A = ℕ} 0 1 = cc in omega arith)
 some zero (suc y) e = omega arith
@@ -84,7 +79,9 @@ some (suc x) y e = omega arith
 
 pub fine-known : (c : MicroPriceConfig) (q : TopOfBook) → checkQuote c q ≡ Fine → Accepted c q
 fine-known c q e =
-    let l = none-of (over q) (bad q) (offTick c q) 2 3 4 e in
+    let a = first-fine (refuseIf (over q) 2) (firstOf (refuseIf (bad q) 3) (refuseIf (offTick c q) 4)) e in
+    let i = first-fine (refuseIf (bad q) 3) (refuseIf (offTick c q) 4) (a .1) in
+    let l : (over q ≡ false) × (bad q ≡ false) × (offTick c q ≡ false) = (if-fine _ 2 (a .0), if-fine _ 3 (i .0), if-fine _ 4 (i .1)) in
     let o = neither (ltb most (q .bid) || ltb most (q .ask) || ltb most (q .«bid_size»)) (ltb most (q .«ask_size»)) (l .0) in
     let p = neither (ltb most (q .bid) || ltb most (q .ask)) (ltb most (q .«bid_size»)) (o .0) in
     let r = neither (ltb most (q .bid)) (ltb most (q .ask)) (p .0) in

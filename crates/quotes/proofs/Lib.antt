@@ -1,8 +1,9 @@
-pub mod Tests
 pub mod Numbers
+pub mod Refusals
 pub mod Known
 pub mod Ticks
 pub mod Buckets
 pub mod States
+pub mod Pairs
 pub mod Exchanged
 pub mod Marked

@@ -1,15 +1,15 @@
 -- Laws of states and mirrors, for every number of buckets.
 use Prim.Native.Nat.{ℕ, _+_, _-_, _*_, _/_, _%_, _≤_, _<_}
-use mathlib.Core.Path.{_≡_, refl, ap, _∙_}
+use mathlib.Core.Path.{_≡_, refl, _∙_}
 use mathlib.Core.Bool.{Bool, true, false, cond}
 use native.Mathlib.Omega.{arith}
-use native.Mathlib.Nat.{mod-lt, mod-eq-of-lt, mul-le-mul-right, add-mul, mul-comm, div-add-mod', div-eq-of-lt, mul-add-mod-self-right, mul-add-div-right, div-lt-iff-lt-mul, add-zero}
+use native.Mathlib.Nat.{mod-lt, mod-eq-of-lt, mul-comm, div-add-mod', div-eq-of-lt, mul-add-mod-self-right, mul-add-div-right, div-lt-iff-lt-mul, add-zero}
 use lib.Dec.{ltb}
 use borrow.Author.Tests.{ltb-false}
 use Rattle.quotes.specs.Configuration.{states, valid}
 use Rattle.quotes.specs.Quotes.{spreadOf, checkQuote}
 use Rattle.quotes.specs.States.{spreadIn, bucketIn, mirrorOf, at, mirrorAt, placeOf, stateOf}
-use Rattle.quotes.specs.Known.{Valid, Accepted}
+use Rattle.quotes.specs.Known.{Valid, Accepted, Located}
 use Rattle.quotes.specs.declared.At.{At}
 use Rattle.quotes.specs.declared.Check.{Check}
 use Rattle.quotes.specs.declared.Check.the-variants.{Fine, Refused}
@@ -19,13 +19,10 @@ use Rattle.quotes.specs.declared.Reason.the-variants.{SpreadOutOfRange}
 use Rattle.quotes.specs.declared.TopOfBook.{TopOfBook}
 use Rattle.quotes.proofs.Buckets.{bucket-le}
 use Rattle.quotes.proofs.Known.{valid-known, fine-known}
-use Rattle.quotes.proofs.Ticks.{spread-least}
+use Rattle.basics.proofs.Lists.{flat-row, flat-column, flat-below}
 
--- row i of n columns, column b, lies below n × s
 row-below : (n s i b : ℕ) → i < s → b < n → i * n + b < n * s
-row-below n s i b h l =
-    let m : (i + 1) * n ≤ s * n = mul-le-mul-right n (omega arith) in
-    omega (arith, add-mul i 1 n, mul-comm n s, m)
+row-below n s i b h l = rw (mul-comm n s) (flat-below n i b l s h)
 
 back : (x : ℕ) → x + 1 - 1 ≡ x
 back x = omega arith
@@ -39,10 +36,7 @@ mirror-by-remainder n i = omega (arith, div-add-mod' i n, mirror-is n i)
 
 -- the mirror of row i, column b
 pub mirror-row : (n i b : ℕ) → b < n → mirrorOf n (i * n + b) ≡ i * n + (n - 1 - b)
-mirror-row n i b h =
-    let d : (i * n + b) / n ≡ i = mul-add-div-right {m = n} (omega arith) i b ∙ ap (λ k. i + k) (div-eq-of-lt h) ∙ add-zero i in
-    let r : (i * n + b) % n ≡ b = mul-add-mod-self-right i n b ∙ mod-eq-of-lt h in
-    mirror-is n (i * n + b) ∙ rw (d, r)
+mirror-row n i b h = mirror-is n (i * n + b) ∙ rw (flat-row n i b h, flat-column n i b h)
 
 module _ (n i : ℕ) (some : 1 ≤ n) where
   bucket-less : i % n < n
@@ -75,22 +69,16 @@ placed : (t : Bool) (a b : At) → cond t (NoState SpreadOutOfRange) (State a) �
 placed true a b e = absurd (let z : _≡_ {A = ℕ} 0 1 = cc in omega arith)
 placed false a b e = (refl, cc)
 
--- what is known of a state that a quote has
-pub record Located (c : MicroPriceConfig) (a : At) : Type 0 where
-  pub below : a .state < states c
-  pub mirror-below : a .mirror < states c
-  pub mirrors : a .mirror ≡ mirrorOf (c .«imbalance_buckets») (a .state)
-
--- the state of an accepted quote is below N, and so is the mirror that it carries
-pub place-located : (c : MicroPriceConfig) (q : TopOfBook) → Valid c → Accepted c q → (a : At) → placeOf c q ≡ State a → Located c a
-place-located c q v f a e =
+-- the state of a place is below N, and so is the mirror that it carries
+pub place-located : (c : MicroPriceConfig) (q : TopOfBook) → Valid c → (a : At) → placeOf c q ≡ State a → Located c a
+place-located c q v a e =
     let n = c .«imbalance_buckets» in
     let p = placed (ltb (c .«spread_states») (spreadOf c q)) _ a e in
     let h : spreadOf c q ≤ c .«spread_states» = ltb-false _ _ (p .0) in
     let b = bucket-le (q .«bid_size») (q .«ask_size») n in
     let l : a .state < states c =
     rw (← p .1)
-    (row-below n (c .«spread_states») (spreadOf c q - 1) _ (omega (arith, spread-least c q v f)) (omega (arith, v .n-least))) in
+    (row-below n (c .«spread_states») (spreadOf c q - 1) _ (omega (arith, v .s-least)) (omega (arith, v .n-least))) in
     let m : a .mirror ≡ mirrorOf n (a .state) = rw (← p .1) in
     record {
       below = l;
@@ -109,4 +97,4 @@ state-usable c q a e = go (valid c) refl (checkQuote c q) refl
 
 -- a state is below N: of any quote under any configuration
 pub state-located : (c : MicroPriceConfig) (q : TopOfBook) (a : At) → stateOf c q ≡ State a → Located c a
-state-located c q a e = let u = state-usable c q a e in place-located c q (u .0) (u .1) a (u .2)
+state-located c q a e = let u = state-usable c q a e in place-located c q (u .0) a (u .2)

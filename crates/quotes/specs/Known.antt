@@ -1,7 +1,9 @@
--- What is known of a valid configuration and of an accepted quote, as facts on numbers. The laws valid-known and fine-known give them from the tests.
+-- What is known of a valid configuration, of an accepted quote and of a state, as facts on numbers. The laws valid-known, fine-known and place-located give them.
 use Prim.Native.Nat.{_+_, _%_, _≤_, _<_}
 use mathlib.Core.Path.{_≡_}
 use Rattle.quotes.specs.Configuration.{most, states}
+use Rattle.quotes.specs.States.{mirrorOf}
+use Rattle.quotes.specs.declared.At.{At}
 use Rattle.quotes.specs.declared.MicroPriceConfig.{MicroPriceConfig}
 use Rattle.quotes.specs.declared.TopOfBook.{TopOfBook}
 
@@ -27,3 +29,9 @@ pub record Accepted (c : MicroPriceConfig) (q : TopOfBook) : Type 0 where
   pub some-size : 1 ≤ q .«bid_size» + q .«ask_size»
   pub bid-whole : q .bid % c .«tick_size» ≡ 0
   pub ask-whole : q .ask % c .«tick_size» ≡ 0
+
+-- what is known of a state that a quote has
+pub record Located (c : MicroPriceConfig) (a : At) : Type 0 where
+  pub below : a .state < states c
+  pub mirror-below : a .mirror < states c
+  pub mirrors : a .mirror ≡ mirrorOf (c .«imbalance_buckets») (a .state)

@@ -1,6 +1,6 @@
 use mathlib.Core.Path.{sym}
 use mathlib.Core.Logic.{inl, inr}
-use Rattle.quotes.proofs.Tests.{fits-mul}
+use Rattle.basics.proofs.Tests.{fits-mul}
 use Rattle.quotes.proofs.Known.{no-shape}
 use borrow.Author.Needs.{needs}
 use Rattle.quotes.proofs.inner.is_shape.Statement.{statement}

@@ -2,7 +2,7 @@ use Prim.Native.Nat.{_-_, _+_, _*_, _/_, _<_}
 use mathlib.Core.Path.{sym}
 use native.Mathlib.Omega.{arith}
 use native.Mathlib.Nat.{div-lt-iff-lt-mul}
-use Rattle.quotes.proofs.Tests.{fits-mul}
+use Rattle.basics.proofs.Tests.{fits-mul}
 use Rattle.quotes.proofs.Buckets.{by-division}
 use borrow.Author.Needs.{needs}
 use Rattle.quotes.proofs.inner.lower_bucket.Statement.{statement}

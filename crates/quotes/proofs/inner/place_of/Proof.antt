@@ -2,7 +2,7 @@ use Prim.Native.Nat.{_-_, _<_}
 use native.Mathlib.Omega.{arith}
 use native.Mathlib.Nat.{mul-le-mul}
 use borrow.Author.Tests.{lt-ltb, le-ltb}
-use Rattle.quotes.proofs.Tests.{fits-mul}
+use Rattle.basics.proofs.Tests.{fits-mul}
 use Rattle.quotes.proofs.Buckets.{bucket-le}
 use Rattle.quotes.proofs.Ticks.{spread-least}
 use Rattle.quotes.proofs.States.{mirror-row}

@@ -1,12 +1,12 @@
--- What tests that hold or fail say of their parts.
+-- What tests that hold or fail say of their parts, and that products fit a word.
 use Prim.Native.Nat.{ℕ, _*_, _^_, _≤_, _<_}
-use mathlib.Core.Path.{_≡_, refl}
+use mathlib.Core.Path.{_≡_, refl, sym}
 use mathlib.Core.Bool.{Bool, true, false, _&&_, _||_}
 use mathlib.Core.Logic.{_⊎_, inl, inr}
 use native.Mathlib.Nat.{lt-of-le-of-lt, mul-le-mul}
 use native.Mathlib.Omega.{arith}
-use lib.Dec.{T, leb, ltb, lit<}
-use borrow.Author.Tests.{leb-true, leb-false}
+use lib.Dec.{T, leb, ltb, eqb, lit<}
+use borrow.Author.Tests.{leb-true, leb-false, eq-eqb}
 use mir.Syntax.{w64}
 use mir.Val.{Fits}
 
@@ -33,3 +33,13 @@ le-or-lt a b = go (leb a b) refl
 -- a product of bounded factors fits a word
 pub fits-mul : (A B : ℕ) {a b : ℕ} → a ≤ A → b ≤ B → T (ltb (A * B) (2 ^ 64)) → Fits w64 (a * b)
 fits-mul A B p q t = record { fits = lt-of-le-of-lt (mul-le-mul p q) (lit< t) }
+
+pub eqb-same : (n : ℕ) → eqb n n ≡ true
+eqb-same n = eq-eqb n n refl
+
+-- two tests that hold together are equal
+pub same-test : (a b : Bool) → (a ≡ true → b ≡ true) → (b ≡ true → a ≡ true) → a ≡ b
+same-test true true f g = refl
+same-test true false f g = sym (f refl)
+same-test false true f g = g refl
+same-test false false f g = refl

@@ -1,0 +1,92 @@
+-- Counts and sums of appended lists, lists made by a function of the place, and flat squares.
+use mathlib.Core.Path.{_≡_, refl, sym, _∙_, ap}
+use mathlib.Core.Logic.{_≢_}
+use mathlib.Core.Bool.{Bool}
+use mathlib.Core.List.{List, [], _∷_, _++_}
+use Prim.Native.Nat.{ℕ, zero, suc, _+_, _*_, _/_, _%_, _<_, max, suc-le-suc}
+use native.Mathlib.Nat.{not-suc-le-zero, le-of-suc-le-suc, zero-lt-suc, zero-add, add-zero, add-assoc, mul-le-mul-right, mul-add-div-right, mul-add-mod-self-right, div-eq-of-lt, mod-eq-of-lt}
+use native.Mathlib.Omega.{arith}
+use native.Mathlib.Decide.{ℕ-discrete}
+use lib.IntN.{ℤ, _+ℤ_, +ℤ-idl, +ℤ-idr, +ℤ-assoc}
+use lib.ListN.{length, getD, set, replicate, length-set, length-replicate, getD-replicate}
+use lib.Seq.{ext-getD, getD-set-same, getD-set-other}
+use Rattle.basics.specs.Lists.{bit, count, sumOf, greatest, tab, square}
+
+module _ {A : Type 0} where
+  pub count-append : (p : A → Bool) (xs ys : List A) → count p (xs ++ ys) ≡ count p xs + count p ys
+  count-append p [] ys = sym (zero-add (count p ys))
+  count-append p (x ∷ xs) ys =
+      ap (λ (n : ℕ). bit (p x) + n) (count-append p xs ys) ∙ sym (add-assoc (bit (p x)) (count p xs) (count p ys))
+
+  pub sum-append : (f : A → ℤ) (xs ys : List A) → sumOf f (xs ++ ys) ≡ sumOf f xs +ℤ sumOf f ys
+  sum-append f [] ys = sym (+ℤ-idl (sumOf f ys))
+  sum-append f (x ∷ xs) ys =
+      ap (λ (n : ℤ). f x +ℤ n) (sum-append f xs ys) ∙ sym (+ℤ-assoc (f x) (sumOf f xs) (sumOf f ys))
+
+  pub greatest-append : (f : A → ℕ) (xs ys : List A) → greatest f (xs ++ ys) ≡ max (greatest f xs) (greatest f ys)
+  greatest-append f [] ys = omega arith
+  greatest-append f (x ∷ xs) ys = rw (greatest-append f xs ys) (omega arith)
+
+  -- one more element
+  pub count-snoc : (p : A → Bool) (xs : List A) (x : A) → count p (xs ++ x ∷ []) ≡ count p xs + bit (p x)
+  count-snoc p xs x = count-append p xs (x ∷ []) ∙ ap (λ (n : ℕ). count p xs + n) (add-zero (bit (p x)))
+
+  pub sum-snoc : (f : A → ℤ) (xs : List A) (x : A) → sumOf f (xs ++ x ∷ []) ≡ sumOf f xs +ℤ f x
+  sum-snoc f xs x = sum-append f xs (x ∷ []) ∙ ap (λ (n : ℤ). sumOf f xs +ℤ n) (+ℤ-idr (f x))
+
+  pub length-tab : (n : ℕ) (f : ℕ → A) → length (tab n f) ≡ n
+  length-tab zero f = refl
+  length-tab (suc n) f = ap suc (length-tab n (λ k. f (suc k)))
+
+  pub getD-tab : (n : ℕ) (f : ℕ → A) (k : ℕ) (d : A) → k < n → getD (tab n f) k d ≡ f k
+  getD-tab zero f k d h = absurd (not-suc-le-zero h)
+  getD-tab (suc n) f zero d h = refl
+  getD-tab (suc n) f (suc k) d h = getD-tab n (λ m. f (suc m)) k d (le-of-suc-le-suc h)
+
+  pub tab-ext : (n : ℕ) (f g : ℕ → A) → ((k : ℕ) → k < n → f k ≡ g k) → tab n f ≡ tab n g
+  tab-ext zero f g h = refl
+  tab-ext (suc n) f g h =
+      λ i. h zero (zero-lt-suc n) i ∷ tab-ext n (λ k. f (suc k)) (λ k. g (suc k)) (λ k b. h (suc k) (suc-le-suc b)) i
+
+  -- a store into such a list makes the list of another function, which differs there alone
+  pub set-tab : (n : ℕ) (f g : ℕ → A) (k : ℕ) (a : A) → k < n → a ≡ g k → ((m : ℕ) → m < n → m ≢ k → f m ≡ g m) → set (tab n f) k a ≡ tab n g
+  set-tab n f g k a h e o = ext-getD a (set (tab n f) k a) (tab n g) lens at
+    where
+      lens : length (set (tab n f) k a) ≡ length (tab n g)
+      lens = length-set (tab n f) k a ∙ length-tab n f ∙ sym (length-tab n g)
+
+      go : (m : ℕ) → m < n → Dec (m ≡ k) → getD (set (tab n f) k a) m a ≡ getD (tab n g) m a
+      go m b (yes p) =
+          rw p (getD-set-same (tab n f) k a a (rw (length-tab n f) h) ∙ e ∙ sym (getD-tab n g k a h))
+      go m b (no q) = getD-set-other (tab n f) k m a a q ∙ getD-tab n f m a b ∙ o m b q ∙ sym (getD-tab n g m a b)
+
+      at : (m : ℕ) → m < length (set (tab n f) k a) → getD (set (tab n f) k a) m a ≡ getD (tab n g) m a
+      at m b = go m (rw (length-set (tab n f) k a, length-tab n f) at b) (ℕ-discrete m k)
+
+-- filling a list with v, from the first place up: what stands below i, one more, and all of it
+pub filled-more : {A : Type 0} (l : List A) (i : ℕ) (v d : A) → i < length l → ((k : ℕ) → k < i → getD l k d ≡ v) → (k : ℕ) → k < i + 1 → getD (set l i v) k d ≡ v
+filled-more l i v d h below k b = go (ℕ-discrete k i)
+  where
+    go : Dec (k ≡ i) → getD (set l i v) k d ≡ v
+    go (yes e) = rw e (getD-set-same l i v d h)
+    go (no e) = getD-set-other l i k v d e ∙ below k (omega arith)
+
+pub filled : {A : Type 0} (l : List A) (v d : A) → ((k : ℕ) → k < length l → getD l k d ≡ v) → l ≡ replicate (length l) v
+filled l v d all =
+    ext-getD d l (replicate (length l) v) (sym (length-replicate (length l) v))
+    (λ k h. all k h ∙ sym (getD-replicate (length l) k v d h))
+
+module _ (N i j : ℕ) (hj : j < N) where
+  pub flat-row : (i * N + j) / N ≡ i
+  flat-row = mul-add-div-right (omega arith) i j ∙ ap (λ (n : ℕ). i + n) (div-eq-of-lt hj) ∙ add-zero i
+
+  pub flat-column : (i * N + j) % N ≡ j
+  flat-column = mul-add-mod-self-right i N j ∙ mod-eq-of-lt hj
+
+  pub flat-below : (M : ℕ) → i < M → i * N + j < M * N
+  flat-below M hi = omega (arith, mul-le-mul-right N hi)
+
+pub getD-square : {A : Type 0} (N : ℕ) (f : ℕ → ℕ → A) (i j : ℕ) (d : A) → i < N → j < N → getD (square N f) (i * N + j) d ≡ f i j
+getD-square {A} N f i j d hi hj =
+    getD-tab (N * N) (λ k. f (k / N) (k % N)) (i * N + j) d (flat-below N i j hj N hi)
+    ∙ (λ t. f (flat-row N i j hj t) (flat-column N i j hj t))

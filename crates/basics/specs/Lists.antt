@@ -1,0 +1,38 @@
+-- Counts, sums and greatest of lists, and lists made by a function of the place.
+use Prim.Native.Nat.{ℕ, zero, suc, _+_, _*_, _/_, _%_, max}
+use mathlib.Core.Bool.{Bool, true, false, _||_}
+use mathlib.Core.List.{List, [], _∷_}
+use lib.IntN.{ℤ, pos, _+ℤ_}
+
+abbrev pub bit : Bool → ℕ
+bit true = 1
+bit false = 0
+
+module _ {A : Type 0} where
+  -- how many elements pass the test
+  abbrev pub count : (A → Bool) → List A → ℕ
+  count p [] = 0
+  count p (x ∷ xs) = bit (p x) + count p xs
+
+  abbrev pub sumOf : (A → ℤ) → List A → ℤ
+  sumOf f [] = pos 0
+  sumOf f (x ∷ xs) = f x +ℤ sumOf f xs
+
+  -- the greatest, or 0
+  abbrev pub greatest : (A → ℕ) → List A → ℕ
+  greatest f [] = 0
+  greatest f (x ∷ xs) = max (f x) (greatest f xs)
+
+  -- whether an element passes the test
+  abbrev pub any : (A → Bool) → List A → Bool
+  any p [] = false
+  any p (x ∷ xs) = p x || any p xs
+
+  -- f 0, f 1, .., f (n − 1)
+  abbrev pub tab : ℕ → (ℕ → A) → List A
+  tab zero f = []
+  tab (suc n) f = f zero ∷ tab n (λ k. f (suc k))
+
+  -- N rows of N cells, flat: cell (i, j) at i × N + j
+  abbrev pub square : ℕ → (ℕ → ℕ → A) → List A
+  square N f = tab (N * N) (λ k. f (k / N) (k % N))

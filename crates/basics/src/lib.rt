@@ -1,0 +1,1 @@
+// Definitions and laws on tests and lists that the other crates share. No code.

@@ -1,0 +1,173 @@
+-- One quote: what its event and its refusals come to.
+use Prim.Native.Nat.{ℕ, _+_, _≤_}
+use mathlib.Core.Path.{_≡_, refl, sym, ap, _∙_}
+use mathlib.Core.Bool.{Bool, true, false, not, _||_, or-true}
+use mathlib.Core.List.{List}
+use native.Mathlib.Omega.{arith}
+use lib.IntN.{ℤ, pos}
+use lib.ListN.{length, replicate}
+use borrow.Author.Tests.{ltb-false, not-false, not-true}
+use Rattle.quotes.specs.Configuration.{states}
+use Rattle.quotes.specs.Known.{Valid, Accepted}
+use Rattle.quotes.specs.Quotes.{checkQuote}
+use Rattle.quotes.specs.Refusals.{refuseIf, firstOf, refusal}
+use Rattle.quotes.specs.Neighbours.{neighboursOf}
+use Rattle.quotes.specs.declared.Check.{Check}
+use Rattle.quotes.specs.declared.Check.the-variants.{Fine, Refused}
+use Rattle.quotes.specs.declared.MicroPriceConfig.{MicroPriceConfig}
+use Rattle.quotes.specs.declared.Neighbours.the-variants.{Counted}
+use Rattle.quotes.specs.declared.Pair.{Pair}
+use Rattle.quotes.specs.declared.Refusal.{Refusal}
+use Rattle.quotes.specs.declared.Skip.{Skip}
+use Rattle.quotes.specs.declared.Skip.the-variants.{Gap, Spread}
+use Rattle.quotes.specs.declared.TopOfBook.{TopOfBook}
+use Rattle.quotes.proofs.Known.{fine-known}
+use Rattle.quotes.proofs.Refusals.{if-fine, first-fine}
+use Rattle.quotes.proofs.Pairs.{counted-made}
+use Rattle.quotes.proofs.States.{place-located}
+use Rattle.quotes.proofs.Ticks.{half-ticks-most}
+use Rattle.tally.specs.Entries.{Tables, tables, enterBoth, forthOf, backOf, touchedOver}
+use Rattle.tally.specs.Events.{first, skip, pair, entered}
+use Rattle.tally.specs.Fits.{Placed}
+use Rattle.tally.specs.Limits.{overCounter}
+use Rattle.tally.specs.Rules.{Memory}
+use Rattle.tally.specs.declared.PairEntry.{PairEntry}
+use Rattle.calibrator.specs.Record.{kindOf, countsOf, memory, ended, skipCount, addSkip, addPair, accepted, limited, pickDone, noCounters, entryOf, Countable}
+use Rattle.calibrator.specs.Observe.{eventFrom, wrongLengths, refuses, broken, earlier, judgePair, roomFor, countedAs, made, observed}
+use Rattle.calibrator.specs.declared.Counters.{Counters}
+use Rattle.calibrator.specs.declared.Done.{Done}
+use Rattle.calibrator.specs.declared.Previous.{Previous}
+use Rattle.calibrator.specs.declared.Previous.the-variants.{Nothing, Quoted}
+use Rattle.calibrator.specs.declared.Record.{Record}
+use Rattle.calibrator.proofs.Room.{room-known, lengths-known}
+
+not-refused : (k : Check) → refuses k ≡ false → k ≡ Fine
+not-refused Fine e = refl
+not-refused (Refused r) e = absurd (let z : _≡_ {A = ℕ} 0 1 = cc in omega arith)
+
+-- what a judged quote after another is known to be
+pub pair-known : (c : MicroPriceConfig) (p q : TopOfBook) → judgePair c p q ≡ Fine → Accepted c p × Accepted c q × (p .«timestamp_ms» ≤ q .«timestamp_ms»)
+pair-known c p q e =
+    let a = first-fine (refuseIf (broken c (Quoted p)) 8) (firstOf (checkQuote c q) (refuseIf (earlier (Quoted p) q) 5)) e in
+    let b = first-fine (checkQuote c q) (refuseIf (earlier (Quoted p) q) 5) (a .1) in
+    (fine-known c p (not-refused (checkQuote c p) (if-fine _ 8 (a .0))), fine-known c q (b .0), ltb-false _ _ (if-fine _ 5 (b .1)))
+
+-- a pair that two accepted quotes make
+pub counted-known : (c : MicroPriceConfig) (p q : TopOfBook) → Valid c → Accepted c p → Accepted c q → (e : Pair) → neighboursOf c p q ≡ Counted e → Countable c e
+counted-known c p q v f g e h =
+    let k = counted-made c p q e h in
+    record {
+      from-at = place-located c p v (e .from) (k .from-place);
+      to-at = place-located c q v (e .to) (k .to-place);
+      mid-from-most = omega (arith, k .from-mid, half-ticks-most c p v f);
+      mid-to-most = omega (arith, k .to-mid, half-ticks-most c q v g);
+    }
+
+-- such a pair in tables of the right lengths
+pub pair-placed : (c : MicroPriceConfig) (e : Pair) (a b t : ℕ) → Valid c → Countable c e → wrongLengths (states c) a b t ≡ false → Placed (states c) (entryOf e) a b t
+pair-placed c e a b t v k w =
+    let z = lengths-known (states c) a b t w in
+    record {
+      few = v .states-most;
+      from-below = k .from-at .below;
+      to-below = k .to-at .below;
+      mirror-from-below = k .from-at .mirror-below;
+      mirror-to-below = k .to-at .mirror-below;
+      stay-cells = z .stay-cells;
+      moved-cells = z .moved-cells;
+      totals-cells = z .totals-cells;
+      mid-from-most = k .mid-from-most;
+      mid-to-most = k .mid-to-most;
+    }
+
+-- a counter that may be added to, or not
+pub may : (n : ℕ) (b : Bool) → b ≡ not (overCounter (n + 1)) → b ≡ true → overCounter (n + 1) ≡ false
+may n b e f = not-true _ (sym e ∙ f)
+
+pub may-not : (n : ℕ) (b : Bool) → b ≡ not (overCounter (n + 1)) → b ≡ false → overCounter (n + 1) ≡ true
+may-not n b e f = not-false _ (sym e ∙ f)
+
+-- ---- the ways through new
+
+module _ (c : MicroPriceConfig) (r : Record) (s m : List ℕ) (t : List ℤ) where
+  pub new-refused : (x : Refusal) → roomFor c (memory r s m t) ≡ Refused x → ended (Refused x) r s m t ≡ made c (memory r s m t)
+  new-refused x e = rw e
+
+  pub new-made : roomFor c (memory r s m t) ≡ Fine → (s′ m′ : List ℕ) (t′ : List ℤ) → s′ ≡ replicate (length s) 0 → m′ ≡ replicate (length m) 0 → t′ ≡ replicate (length t) (pos 0) → (k : Counters) → k ≡ noCounters → ended Fine (record { previous = Nothing; counters = k }) s′ m′ t′ ≡ made c (memory r s m t)
+  new-made e s′ m′ t′ u v w k f =
+      let z = lengths-known (states c) (length s) (length m) (length t) (room-known c (length s) (length m) (length t) e .1) in
+      rw (e, f, u, v, w, z .stay-cells, z .moved-cells, z .totals-cells)
+
+-- ---- the ways through one quote
+
+module _ (c : MicroPriceConfig) (l : Previous) (k : Counters) (s m : List ℕ) (t : List ℤ) (q : TopOfBook) where
+  abbrev held : Record
+  held = record { previous = l; counters = k }
+
+  abbrev before : Memory Previous
+  before = memory held s m t
+
+  -- 1 or 7
+  pub way-no-room : (x : Refusal) → roomFor c before ≡ Refused x → ended (Refused x) held s m t ≡ observed c before q
+  way-no-room x e = rw e
+
+  -- a first quote
+  pub way-first : roomFor c before ≡ Fine → l ≡ Nothing → (d : Done) → d ≡ pickDone (checkQuote c q) held (accepted k q) → ended (d .answer) (d .next) s m t ≡ observed c before q
+  way-first e f d g = rw g (go (checkQuote c q) refl)
+    where
+      go : (x : Check) → checkQuote c q ≡ x → ended (pickDone x held (accepted k q) .answer) (pickDone x held (accepted k q) .next) s m t ≡ observed c before q
+      go Fine h = rw (e, f, h)
+      go (Refused x) h = rw (e, f, h)
+
+  -- 8, 2, 3, 4 or 5 after another quote
+  pub way-judged : roomFor c before ≡ Fine → (p : TopOfBook) → l ≡ Quoted p → (x : Refusal) → judgePair c p q ≡ Refused x → ended (Refused x) held s m t ≡ observed c before q
+  way-judged e p f x h = rw (e, f, h)
+
+  -- counted, or 6
+  pub way-next : roomFor c before ≡ Fine → (p : TopOfBook) → l ≡ Quoted p → judgePair c p q ≡ Fine → countedAs c before q (eventFrom (neighboursOf c p q)) ≡ observed c before q
+  way-next e p f h = rw (e, f, h)
+
+  -- a skip, its counter within its limit or not
+  pub way-skipped : (x : Skip) → overCounter (skipCount k x + 1) ≡ false → ended Fine (record { previous = Quoted q; counters = addSkip k x }) s m t ≡ countedAs c before q (skip (kindOf x))
+  way-skipped Gap e = rw e
+  way-skipped Spread e = rw e
+
+  pub way-skip-limit : (x : Skip) → overCounter (skipCount k x + 1) ≡ true → ended (Refused (refusal 6)) held s m t ≡ countedAs c before q (skip (kindOf x))
+  way-skip-limit Gap e = rw e
+  way-skip-limit Spread e = rw e
+
+  -- a pair, what it touches within its limits or not
+  module _ (p : Pair) (w : Countable c p) where
+    abbrev e : PairEntry
+    e = entryOf p
+
+    abbrev after : Tables
+    after = enterBoth (states c) (forthOf e) (backOf e) (tables s m t)
+
+    limit-is : (overCounter (k .pairs + 1) || touchedOver (states c) (forthOf e) (backOf e) after) ≡ true → ended (Refused (refusal 6)) held s m t ≡ countedAs c before q (eventFrom (Counted p))
+    limit-is x = rw (← w .from-at .mirrors, ← w .to-at .mirrors, x)
+
+    -- the counter of pairs is full
+    pub way-full : (b : Bool) → b ≡ not (overCounter (k .pairs + 1)) → not b ≡ true → (d : Done) → d ≡ limited held → ended (d .answer) (d .next) s m t ≡ countedAs c before q (eventFrom (Counted p))
+    way-full b x y d g = rw (g, limit-is (rw (may-not (k .pairs) b x (not-true b y))))
+
+    module _ (n : ℕ) (n-is : n ≡ states c) (e′ : PairEntry) (e-is : e′ ≡ e) (b : Bool) (b-is : b ≡ not (touchedOver n (forthOf e′) (backOf e′) (enterBoth n (forthOf e′) (backOf e′) (tables s m t)))) where
+      b-here : b ≡ not (touchedOver (states c) (forthOf e) (backOf e) after)
+      b-here = rw (n-is, e-is) at b-is
+
+      -- a cell or a total would pass its limit
+      pub way-over : not b ≡ true → (d : Done) → d ≡ limited held → ended (d .answer) (d .next) s m t ≡ countedAs c before q (eventFrom (Counted p))
+      way-over y d g =
+          let f : touchedOver (states c) (forthOf e) (backOf e) after ≡ true = not-false _ (sym b-here ∙ not-true b y) in
+          rw (g, limit-is (rw f (or-true (overCounter (k .pairs + 1)))))
+
+      -- entered
+      pub way-entered : (a : Bool) → a ≡ not (overCounter (k .pairs + 1)) → not a ≡ false → not b ≡ false → (s′ m′ : List ℕ) (t′ : List ℤ) → tables s′ m′ t′ ≡ enterBoth n (forthOf e′) (backOf e′) (tables s m t) → (k′ : Counters) → k′ ≡ addPair k e′ → (d : Done) → d ≡ accepted k′ q → ended (d .answer) (d .next) s′ m′ t′ ≡ countedAs c before q (eventFrom (Counted p))
+      way-entered a x y z s′ m′ t′ u k′ v d g =
+          let f : touchedOver (states c) (forthOf e) (backOf e) after ≡ false = not-true _ (sym b-here ∙ not-false b z) in
+          let h : tables s′ m′ t′ ≡ after = rw (n-is, e-is) at u in
+          let j : k′ ≡ addPair k e = rw e-is at v in
+          rw g
+          (ap (λ (T : Tables). record { answer = Fine; left = record { last = Quoted q; counts = countsOf k′ T } }) h
+          ∙ ap (λ (K : Counters). record { answer = Fine; left = record { last = Quoted q; counts = countsOf K after } }) j
+          ∙ rw (← w .from-at .mirrors, ← w .to-at .mirrors, may (k .pairs) a x (not-false a y), f))

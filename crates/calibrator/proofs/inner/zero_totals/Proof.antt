@@ -1,0 +1,59 @@
+use Prim.Native.Nat.{ℕ, _≤_, _<_, _-_}
+use mathlib.Core.Path.{_≡_}
+use native.Mathlib.Omega.{arith}
+use borrow.Author.Needs.{needs}
+use lib.ListN.{length, getD, length-set}
+use Rattle.basics.proofs.Lists.{filled, filled-more}
+use lib.IntN.{pos}
+use Rattle.calibrator.proofs.inner.zero_totals.Statement.{statement}
+use Rattle.calibrator.proofs.inner.zero_totals.Tie as tie
+
+abbrev Inv-loop : tie.InvT-loop
+Inv-loop t₀ i₀ t i = (i ≤ length t) × (length t ≡ length t₀) × ((k : ℕ) → k < i → getD t k (pos 0) ≡ (pos 0))
+
+abbrev μ-loop : tie.MeasureT-loop
+μ-loop t₀ i₀ t i = length t - i
+
+loop-holds : tie.Need-loop-holds Inv-loop μ-loop
+loop-holds c = (search needs, search needs, λ k h. absurd (omega arith))
+
+mul-t : tie.Need-mul-t Inv-loop μ-loop
+mul-t c = omega (arith, c .before .before .good)
+
+slice-set-of-t : tie.Need-slice-set-of-t Inv-loop μ-loop
+slice-set-of-t c = omega arith
+
+add-i : tie.Need-add-i Inv-loop μ-loop
+add-i c = omega arith
+
+loop-less : tie.Need-loop-less Inv-loop μ-loop
+loop-less c = simp length-set (omega arith)
+
+loop-again : tie.Need-loop-again Inv-loop μ-loop
+loop-again c =
+    let l = c .before .loop in
+    (simp length-set (omega arith), simp length-set (l .inv .1), filled-more (l .t) (l .i) (pos 0) (pos 0) (c .loop-test .taken) (l .inv .2))
+
+same-length : tie.Need-same-length Inv-loop μ-loop
+same-length c = c .before .loop .inv .1
+
+returns : tie.Need-returns Inv-loop μ-loop
+returns c =
+    let l = c .before .loop in
+    let e = filled (l .t) (pos 0) (pos 0) (λ k h. l .inv .2 k (omega (arith, c .loop-test .left))) in
+    rw (l .inv .1) at e
+
+pub zero-totals-spec : {M : Type 1} → statement M
+zero-totals-spec =
+    tie.close
+    (tie.spec
+    Inv-loop
+    μ-loop
+    loop-holds
+    mul-t
+    slice-set-of-t
+    add-i
+    loop-less
+    loop-again
+    same-length
+    returns)

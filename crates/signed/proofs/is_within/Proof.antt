@@ -1,0 +1,9 @@
+use Rattle.signed.proofs.Sums.{within-ends, back}
+use Rattle.signed.proofs.is_within.Statement.{statement}
+use Rattle.signed.proofs.is_within.Tie as tie
+
+returns : tie.Need-returns
+returns c = rw (back (c .args .total) (c .fits .total .sfits)) (within-ends (c .args .total))
+
+pub is-within-spec : {M : Type 1} → statement M
+is-within-spec = tie.close (tie.spec returns)

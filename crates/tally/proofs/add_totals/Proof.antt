@@ -1,0 +1,29 @@
+use lib.ListN.{length-set}
+use native.Mathlib.Omega.{arith}
+use Rattle.signed.specs.Totals.{change}
+use Rattle.signed.proofs.Sums.{change-neg, change-size}
+use Rattle.tally.proofs.Touched.{totals-first, totals-second}
+use borrow.Author.Needs.{needs}
+use Rattle.tally.proofs.add_totals.Statement.{statement}
+use Rattle.tally.proofs.add_totals.Tie as tie
+
+add-at-requires : tie.Need-add-at-requires
+add-at-requires c κs =
+    let a = c .before .args in
+    let p = c .before .pre in
+    (p .0, p .2, p .3, totals-first (a .t .now) (change (a .from) (a .to)) (omega (arith, change-size (a .from) (a .to))) (a .a) (a .b) (p .4) (p .0))
+
+add-at-requires-2 : tie.Need-add-at-requires-2
+add-at-requires-2 c κs =
+    let a = c .before .before .before .before .args in
+    let p = c .before .before .before .before .pre in
+    rw (c .before .before .add-at .ensures) (simp length-set (p .1), omega arith, omega arith, totals-second (a .t .now) (change (a .from) (a .to)) (omega (arith, change-size (a .from) (a .to))) (a .a) (a .b) (p .4) (p .1))
+
+same-length : tie.Need-same-length
+same-length c = search needs
+
+returns : tie.Need-returns
+returns c = rw (change-neg, ← c .before .before .before .before .add-at .ensures, c .before .add-at2 .ensures)
+
+pub add-totals-spec : {M : Type 1} → statement M
+add-totals-spec = tie.close (tie.spec add-at-requires add-at-requires-2 same-length returns)

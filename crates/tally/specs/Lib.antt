@@ -1,0 +1,5 @@
+pub mod Entries
+pub mod Events
+pub mod Limits
+pub mod Fits
+pub mod Rules

@@ -1,0 +1,31 @@
+-- Refusal 6: document 01, "New, and one quote".
+use Prim.Native.Nat.{ℕ, _^_}
+use mathlib.Core.Bool.{Bool, false, _||_}
+use lib.Dec.{ltb}
+use lib.ListN.{getD}
+use Rattle.basics.specs.Lists.{any}
+use Rattle.tally.specs.Entries.{overCell, overTotal, touchedOver, forth, back}
+use Rattle.tally.specs.Events.{Event, first, skip, pair, Counts}
+
+-- the limit of a counter of pairs or skips
+abbrev pub counterLimit : ℕ
+counterLimit = 2 ^ 52
+
+abbrev pub overCounter : ℕ → Bool
+overCounter n = ltb counterLimit n
+
+-- in the counts after the event, what it added to is over its limit
+abbrev pub touched : ℕ → (ℕ → ℕ) → Event → Counts → Bool
+touched N mirror first c = false
+touched N mirror (skip k) c = overCounter (getD (c .skips) k 0)
+touched N mirror (pair i j d) c =
+    overCounter (c .pairs) || touchedOver N (forth i j d) (back mirror i j d) (c .tables)
+
+-- something is over its limit
+abbrev pub over : Counts → Bool
+over c =
+    overCounter (c .pairs)
+    || any overCounter (c .skips)
+    || any overCell (c .tables .stay)
+    || any overCell (c .tables .moved)
+    || any overTotal (c .tables .totals)

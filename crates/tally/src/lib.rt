@@ -1,0 +1,114 @@
+// Counting pairs into tables. Inner functions: for the crates above, not for users. Where one has a `requires`, each caller proves it.
+ghost use mathlib.Core.Path.{_≡_};
+ghost use mathlib.Core.Bool.{not, true, false, _||_};
+ghost use Prim.Native.Nat.{_+_, _*_, _≤_, _<_, max};
+ghost use lib.ListN.{length, getD};
+ghost use lib.IntN.{pos, negℤ};
+ghost use Rattle.signed.specs.Totals.{change, addAt};
+ghost use Rattle.tally.specs.Entries.{bump, overCell, overTotal, tables, enterBoth, forthOf, backOf, touchedOver};
+ghost use Rattle.tally.specs.Limits.{overCounter};
+ghost use Rattle.tally.specs.Fits.{Placed, cellsOver, totalsOver};
+
+// A counted pair and its mirror by their states, with the mid before and after in half ticks.
+pub struct PairEntry {
+    pub from: usize,
+    pub to: usize,
+    pub mirror_from: usize,
+    pub mirror_to: usize,
+    pub mid_from: u64,
+    pub mid_to: u64,
+}
+
+// The limit of a counter of pairs or skips, 2^52, and of a cell, 2^53.
+const COUNTER_LIMIT: u64 = 4503599627370496;
+
+const CELL_LIMIT: u64 = 9007199254740992;
+
+// Whether a counter, whatever it is, may be added to.
+pub fn may_count(counter: u64) -> bool
+    ensures { λ r. ⌜ r ≡ not (overCounter (counter + 1)) ⌝ }
+{
+    counter < COUNTER_LIMIT
+}
+
+pub fn larger(a: u64, b: u64) -> u64
+    ensures { λ r. ⌜ r ≡ max a b ⌝ }
+{
+    if a < b { b } else { a }
+}
+
+fn cell(n: usize, i: usize, j: usize) -> usize
+    requires { ⌜ (n ≤ 256) × (i < n) × (j < n) ⌝ }
+    ensures { λ r. ⌜ r ≡ i * n + j ⌝ }
+{
+    i * n + j
+}
+
+fn cells_fit(t: &[u64], a: usize, b: usize) -> bool
+    requires { ⌜ (a < length (now t)) × (b < length (now t)) ⌝ }
+    ensures { λ r. ⌜ r ≡ not (cellsOver (now (t .entry)) a b) ⌝ }
+{
+    if a == b {
+        return t[a] <= CELL_LIMIT - 2;
+    }
+    let x = t[a];
+    let y = t[b];
+    (x < CELL_LIMIT) & (y < CELL_LIMIT)
+}
+
+fn add_cells(t: &mut [u64], a: usize, b: usize)
+    requires { ⌜ (a < length (now t)) × (b < length (now t)) × (cellsOver (now t) a b ≡ false) ⌝ }
+    ensures { λ r. ⌜ now (t .exit) ≡ bump (bump (now (t .entry)) a) b ⌝ }
+{
+    t[a] += 1;
+    t[b] += 1;
+}
+
+fn totals_fit(t: &[i64], a: usize, b: usize, from: u64, to: u64) -> bool
+    requires { ⌜ (a < length (now t)) × (b < length (now t)) × (from ≤ 2000000000) × (to ≤ 2000000000) ⌝ }
+    ensures { λ r. ⌜ r ≡ not (totalsOver (now (t .entry)) a b (change from to)) ⌝ }
+{
+    if a == b {
+        return signed::is_within_at(t, a);
+    }
+    let x = signed::fits_at(t, a, from, to);
+    let y = signed::fits_at(t, b, to, from);
+    x & y
+}
+
+fn add_totals(t: &mut [i64], a: usize, b: usize, from: u64, to: u64)
+    requires { ⌜ (a < length (now t)) × (b < length (now t)) × (from ≤ 2000000000) × (to ≤ 2000000000) × (totalsOver (now t) a b (change from to) ≡ false) ⌝ }
+    ensures { λ r. ⌜ now (t .exit) ≡ addAt (addAt (now (t .entry)) a (change from to)) b (negℤ (change from to)) ⌝ }
+{
+    signed::add_at(t, a, from, to);
+    signed::add_at(t, b, to, from);
+}
+
+// Whether every touched cell and total would be within its limit after both entries.
+pub fn pair_fits(n: usize, stay: &[u64], moved: &[u64], totals: &[i64], e: PairEntry) -> bool
+    requires { ⌜ Placed n e (length (now stay)) (length (now moved)) (length (now totals)) ⌝ }
+    ensures { λ r. ⌜ r ≡ not (touchedOver n (forthOf e) (backOf e) (enterBoth n (forthOf e) (backOf e) (tables (now (stay .entry)) (now (moved .entry)) (now (totals .entry))))) ⌝ }
+{
+    let a = cell(n, e.from, e.to);
+    let b = cell(n, e.mirror_from, e.mirror_to);
+    let t = totals_fit(totals, e.from, e.mirror_from, e.mid_from, e.mid_to);
+    if e.mid_from == e.mid_to {
+        return cells_fit(stay, a, b) & t;
+    }
+    cells_fit(moved, a, b) & t
+}
+
+// Enters a pair and its mirror.
+pub fn enter_pair(n: usize, stay: &mut [u64], moved: &mut [u64], totals: &mut [i64], e: PairEntry)
+    requires { ⌜ Placed n e (length (now stay)) (length (now moved)) (length (now totals)) × (touchedOver n (forthOf e) (backOf e) (enterBoth n (forthOf e) (backOf e) (tables (now stay) (now moved) (now totals))) ≡ false) ⌝ }
+    ensures { λ r. ⌜ tables (now (stay .exit)) (now (moved .exit)) (now (totals .exit)) ≡ enterBoth n (forthOf e) (backOf e) (tables (now (stay .entry)) (now (moved .entry)) (now (totals .entry))) ⌝ }
+{
+    let a = cell(n, e.from, e.to);
+    let b = cell(n, e.mirror_from, e.mirror_to);
+    add_totals(totals, e.from, e.mirror_from, e.mid_from, e.mid_to);
+    if e.mid_from == e.mid_to {
+        add_cells(stay, a, b);
+    } else {
+        add_cells(moved, a, b);
+    }
+}
