@@ -1,6 +1,6 @@
 -- Counts, sums and greatest of lists, and lists made by a function of the place.
 use Prim.Native.Nat.{ℕ, zero, suc, _+_, _*_, _/_, _%_, max}
-use mathlib.Core.Bool.{Bool, true, false, _||_}
+use mathlib.Core.Bool.{Bool, true, false, _&&_, _||_}
 use mathlib.Core.List.{List, [], _∷_}
 use lib.IntN.{ℤ, pos, _+ℤ_}
 
@@ -36,3 +36,12 @@ module _ {A : Type 0} where
   -- N rows of N cells, flat: cell (i, j) at i × N + j
   abbrev pub square : ℕ → (ℕ → ℕ → A) → List A
   square N f = tab (N * N) (λ k. f (k / N) (k % N))
+
+-- the test at i, i + 1, .., k of them
+abbrev pub allFrom : (ℕ → Bool) → ℕ → ℕ → Bool
+allFrom p i zero = true
+allFrom p i (suc k) = p i && allFrom p (suc i) k
+
+abbrev pub sum : List ℕ → ℕ
+sum [] = 0
+sum (x ∷ xs) = x + sum xs

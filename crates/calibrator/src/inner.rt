@@ -25,7 +25,7 @@ ghost use Rattle.tally.specs.Events.{skip};
 ghost use Rattle.calibrator.specs.Record.{ended, memory, skipCount, addSkip, addPair, accepted, limited, pickDone, noCounters, entryOf, kindOf, Countable};
 ghost use Rattle.calibrator.specs.Observe.{eventFrom, wrongLengths, checkRoom, judgePair, made, observed, countedAs};
 
-fn wrong_lengths(n: usize, stay: usize, moved: usize, totals: usize) -> bool
+pub fn wrong_lengths(n: usize, stay: usize, moved: usize, totals: usize) -> bool
     requires { ⌜ n ≤ 256 ⌝ }
     ensures { λ r. ⌜ r ≡ wrongLengths n stay moved totals ⌝ }
 {

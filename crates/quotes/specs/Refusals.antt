@@ -1,5 +1,5 @@
 -- Document 01's refusals by number, and the first of several in its order.
-use Prim.Native.Nat.{ℕ, _-_}
+use Prim.Native.Nat.{ℕ, zero, suc, _-_}
 use mathlib.Core.Bool.{Bool, true, false}
 use mathlib.Core.List.{List, [], _∷_}
 use lib.ListN.{getD}
@@ -67,3 +67,8 @@ refuseIf false k = Fine
 abbrev pub firstOf : Check → Check → Check
 firstOf Fine check = check
 firstOf (Refused r) check = Refused r
+
+-- the first refusal of the checks i, i + 1, .., k of them
+abbrev pub firstFrom : (ℕ → Check) → ℕ → ℕ → Check
+firstFrom f i zero = Fine
+firstFrom f i (suc k) = firstOf (f i) (firstFrom f (suc i) k)

@@ -1,0 +1,61 @@
+use Rattle.tally.specs.Entries.{tables}
+use Rattle.quotes.specs.Configuration.{valid}
+use Rattle.image.proofs.Ways.{way-short, way-invalid, way-layout, way-held}
+use Rattle.image.proofs.Judged.{laid-out-whole}
+use mathlib.Core.Path.{sym, ap, _∙_}
+use borrow.Author.Tests.{lt-ltb, le-ltb, not-true, not-false}
+use Rattle.quotes.proofs.Known.{valid-known}
+use Rattle.image.specs.Layout.{imageLength}
+use borrow.Author.Needs.{needs}
+use Rattle.image.proofs.inner.check_restore.Statement.{statement}
+use Rattle.image.proofs.inner.check_restore.Tie as tie
+
+returns : tie.Need-returns
+returns c = let a = c .before .before .before .before .args in way-short (a .b .now) (tables (a .stay .now) (a .moved .now) (a .totals .now)) (lt-ltb _ _ (c .if1 .taken))
+
+config-in-requires : tie.Need-config-in-requires
+config-in-requires c κs = search needs
+
+is-valid-requires : tie.Need-is-valid-requires
+is-valid-requires c κs = search needs
+
+returns-2 : tie.Need-returns-2
+returns-2 c =
+    let a = c .before .before .before .before .before .before .before .args in
+    way-invalid (a .b .now) (tables (a .stay .now) (a .moved .now) (a .totals .now)) (le-ltb _ _ (c .before .before .before .if1 .left)) (ap valid (sym (c .before .before .config-in .ensures)) ∙ sym (c .before .is-valid .ensures) ∙ not-true _ (c .if2 .taken))
+
+record-in-requires : tie.Need-record-in-requires
+record-in-requires c κs = search needs
+
+is-laid-out-requires : tie.Need-is-laid-out-requires
+is-laid-out-requires c κs = (valid-known _ (sym (c .before .before .is-valid .ensures) ∙ not-false _ (c .before .if2 .left)), c .before .before .before .before .if1 .left, c .before .before .before .config-in .ensures, c .record-in .ensures)
+
+returns-3 : tie.Need-returns-3
+returns-3 c =
+    let a = c .before .before .before .before .before .before .before .before .before .before .args in
+    way-layout (a .b .now) (tables (a .stay .now) (a .moved .now) (a .totals .now)) (le-ltb _ _ (c .before .before .before .before .before .before .if1 .left)) (ap valid (sym (c .before .before .before .before .before .config-in .ensures)) ∙ sym (c .before .before .before .before .is-valid .ensures) ∙ not-false _ (c .before .before .before .if2 .left)) (sym (c .before .is-laid-out .ensures) ∙ not-true _ (c .if3 .taken))
+
+check-held-requires : tie.Need-check-held-requires
+check-held-requires c κs =
+    let a = c .before .before .before .before .before .before .before .before .before .before .args in
+    (valid-known _ (sym (c .before .before .before .before .is-valid .ensures) ∙ not-false _ (c .before .before .before .if2 .left)), c .before .before .before .before .before .config-in .ensures, c .before .before .record-in .ensures, laid-out-whole (a .b .now) (sym (c .before .is-laid-out .ensures) ∙ not-false _ (c .if3 .left)) ∙ ap imageLength (sym (c .before .before .before .before .before .config-in .ensures)))
+
+returns-4 : tie.Need-returns-4
+returns-4 c =
+    let a = c .before .before .before .before .before .before .before .before .before .before .before .args in
+    c .check-held .ensures
+    ∙ way-held (a .b .now) (tables (a .stay .now) (a .moved .now) (a .totals .now)) (le-ltb _ _ (c .before .before .before .before .before .before .before .if1 .left)) (ap valid (sym (c .before .before .before .before .before .before .config-in .ensures)) ∙ sym (c .before .before .before .before .before .is-valid .ensures) ∙ not-false _ (c .before .before .before .before .if2 .left)) (sym (c .before .before .is-laid-out .ensures) ∙ not-false _ (c .before .if3 .left))
+
+pub check-restore-spec : {M : Type 1} → statement M
+check-restore-spec =
+    tie.close
+    (tie.spec
+    returns
+    config-in-requires
+    is-valid-requires
+    returns-2
+    record-in-requires
+    is-laid-out-requires
+    returns-3
+    check-held-requires
+    returns-4)

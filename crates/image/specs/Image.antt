@@ -1,0 +1,97 @@
+-- Save and restore: document 01, "The image".
+use Prim.Native.Nat.{ℕ, _≤_}
+use mathlib.Core.Path.{_≡_}
+use mathlib.Core.Bool.{Bool, not}
+use mathlib.Core.List.{List}
+use lib.Dec.{ltb, eqb}
+use lib.ListN.{length}
+use Rattle.quotes.specs.Configuration.{states, checkConfig}
+use Rattle.quotes.specs.Refusals.{refuseIf, firstOf}
+use Rattle.quotes.specs.States.{mirrorOf}
+use Rattle.quotes.specs.declared.Check.{Check}
+use Rattle.quotes.specs.declared.Check.the-variants as Check
+use Rattle.quotes.specs.declared.MicroPriceConfig.{MicroPriceConfig}
+use Rattle.tally.specs.Entries.{Tables}
+use Rattle.tally.specs.Events.{Counts}
+use Rattle.tally.specs.Rules.{Memory}
+use Rattle.mirrored.specs.Mirrors.{checkCounts}
+use Rattle.calibrator.specs.Observe.{wrongLengths, roomFor, broken}
+use Rattle.calibrator.specs.declared.Previous.{Previous}
+use Rattle.image.specs.Layout.{headerLength, cells, imageLength, image, configIn, previousIn, memoryIn, laidOut}
+use Rattle.image.specs.declared.Restored.{Restored}
+use Rattle.image.specs.declared.Restored.the-variants.{Config, Refused}
+
+-- 6, 9, 10, 11
+abbrev pub checkMirrored : MicroPriceConfig → Counts → Check
+checkMirrored c k = checkCounts (states c) (mirrorOf (c .«imbalance_buckets»)) k
+
+-- ---- save
+
+-- 1, 7 (tables, output), 8, 6, 9, 10, 11
+abbrev pub saveRefusal : MicroPriceConfig → Memory Previous → ℕ → Check
+saveRefusal c m long =
+    firstOf (roomFor c m)
+    (firstOf (refuseIf (not (eqb long (imageLength c))) 7)
+    (firstOf (refuseIf (broken c (m .last)) 8) (checkMirrored c (m .counts))))
+
+-- an answer, and what the output then holds
+pub record Saved : Type 0 where
+  pub answer : Check
+  pub output : List ℕ
+
+abbrev pub endSave : Check → List ℕ → Saved
+endSave k out = record { answer = k; output = out }
+
+-- refused: the output unchanged; else the output is the image
+abbrev pub savedUnless : Check → List ℕ → List ℕ → Saved
+savedUnless Check.Fine before written = endSave Check.Fine written
+savedUnless (Check.Refused r) before written = endSave (Check.Refused r) before
+
+abbrev pub saved : MicroPriceConfig → Memory Previous → List ℕ → Saved
+saved c m out = savedUnless (saveRefusal c m (length out)) out (image c m)
+
+-- ---- restore
+
+-- 12: under 160 bytes
+abbrev pub tooShort : List ℕ → Bool
+tooShort b = ltb (length b) headerLength
+
+-- 7: the lent tables do not have the lengths of N states
+abbrev pub lentWrong : ℕ → Tables → Bool
+lentWrong N t = wrongLengths N (length (t .stay)) (length (t .moved)) (length (t .totals))
+
+-- 7, 8, then 6, 9, 10, 11 on what the image holds
+abbrev pub heldRefusal : List ℕ → Tables → Check
+heldRefusal b t =
+    firstOf (refuseIf (lentWrong (states (configIn b)) t) 7)
+    (firstOf (refuseIf (broken (configIn b) (previousIn b)) 8) (checkMirrored (configIn b) (memoryIn b .counts)))
+
+-- 12, 1, 12, then those
+abbrev pub restoreRefusal : List ℕ → Tables → Check
+restoreRefusal b t =
+    firstOf (refuseIf (tooShort b) 12)
+    (firstOf (checkConfig (configIn b)) (firstOf (refuseIf (not (laidOut b)) 12) (heldRefusal b t)))
+
+-- an answer and the memory that it leaves
+pub record Taken : Type 0 where
+  pub answer : Restored
+  pub left : Memory Previous
+
+abbrev pub endRestore : Restored → Memory Previous → Taken
+endRestore a m = record { answer = a; left = m }
+
+-- refused: record and tables unchanged; else it answers the configuration, and they hold what the image holds
+abbrev pub takenUnless : Check → List ℕ → Memory Previous → Taken
+takenUnless Check.Fine b m = endRestore (Config (configIn b)) (memoryIn b)
+takenUnless (Check.Refused r) b m = endRestore (Refused r) m
+
+abbrev pub restored : List ℕ → Memory Previous → Taken
+restored b m = takenUnless (restoreRefusal b (m .counts .tables)) b m
+
+-- what reading the tables asks of the lengths
+pub record Readable (b : List ℕ) (stay moved totals : ℕ) : Type 0 where
+  pub few : states (configIn b) ≤ 256
+  pub stay-cells : stay ≡ cells (configIn b)
+  pub moved-cells : moved ≡ cells (configIn b)
+  pub totals-cells : totals ≡ states (configIn b)
+  pub whole : length b ≡ imageLength (configIn b)

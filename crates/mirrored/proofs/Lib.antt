@@ -1,0 +1,5 @@
+pub mod Totals
+pub mod Walks
+pub mod Sums
+pub mod Readings
+pub mod Answers

@@ -1,0 +1,76 @@
+use Prim.Native.Nat.{ℕ, _-_}
+use mathlib.Core.Path.{_≡_, ap, _∙_, sym}
+use mathlib.Core.Bool.{Bool}
+use mathlib.Core.List.{List}
+use native.Mathlib.Omega.{arith}
+use lib.IntN.{ℤ}
+use lib.ListN.{getD}
+use borrow.Author.Count.{falls}
+use borrow.Author.Needs.{needs}
+use Rattle.quotes.specs.Refusals.{firstFrom}
+use Rattle.quotes.specs.declared.Check.{Check}
+use Rattle.mirrored.specs.Mirrors.{checkState}
+use Rattle.mirrored.specs.Lies.{tablesIn}
+use Rattle.mirrored.proofs.Walks.{whole, first-step, first-stop, first-end}
+use Rattle.mirrored.proofs.check_states.Statement.{statement}
+use Rattle.mirrored.proofs.check_states.Tie as tie
+
+abbrev state : ℕ → List ℕ → Bool → List ℕ → List ℕ → List ℤ → List ℕ → List ℕ → List ℕ → ℕ → Check
+state n mirrors imaged stay moved totals sb mb tb =
+    checkState n (λ k. getD mirrors k 0) (tablesIn imaged stay moved totals sb mb tb)
+
+abbrev Inv-loop : tie.InvT-loop
+Inv-loop n mirrors stay moved totals sb mb tb imaged i₀ i =
+    firstFrom (state n mirrors imaged stay moved totals sb mb tb) 0 n ≡ firstFrom (state n mirrors imaged stay moved totals sb mb tb) i (n - i)
+
+abbrev μ-loop : tie.MeasureT-loop
+μ-loop n mirrors stay moved totals sb mb tb imaged i₀ i = n - i
+
+loop-holds : tie.Need-loop-holds Inv-loop μ-loop
+loop-holds c = ap (firstFrom _ 0) (whole (c .before .before .before .before .before .before .args .n))
+
+check-state-requires : tie.Need-check-state-requires Inv-loop μ-loop
+check-state-requires c κs = let p = c .before .before .before .before .before .before .before .before .pre in (c .loop-test .taken, p .0, p .1)
+
+enum-told : tie.Need-enum-told Inv-loop μ-loop
+enum-told c = search needs
+
+enum-told-2 : tie.Need-enum-told-2 Inv-loop μ-loop
+enum-told-2 c = search needs
+
+returns : tie.Need-returns Inv-loop μ-loop
+returns c =
+    let l = c .before .before .before .before .loop in
+    let k = c .before .before .check-state in
+    sym (l .inv ∙ first-stop _ (l .i) (c .before .before .before .before .before .before .before .before .before .before .before .args .n) (k .result) (c .enum-told2 .given .0 .0) (c .before .before .before .loop-test .taken) (k .ensures) (c .enum-told2 .given .1))
+
+add-i : tie.Need-add-i Inv-loop μ-loop
+add-i c = omega arith
+
+loop-less : tie.Need-loop-less Inv-loop μ-loop
+loop-less c = falls (c .before .before .before .before .before .before .before .before .before .before .before .args .n) (c .before .before .before .before .loop .i) (c .before .before .before .loop-test .taken)
+
+loop-again : tie.Need-loop-again Inv-loop μ-loop
+loop-again c =
+    let l = c .before .before .before .before .loop in
+    let k = c .before .before .check-state in
+    l .inv ∙ first-step _ (l .i) (c .before .before .before .before .before .before .before .before .before .before .before .args .n) (k .result) (c .before .before .before .loop-test .taken) (k .ensures) (c .enum-told .given .1)
+
+returns-2 : tie.Need-returns-2 Inv-loop μ-loop
+returns-2 c = sym (c .before .loop .inv ∙ first-end _ (c .before .loop .i) (c .before .before .before .before .before .before .before .before .args .n) (c .loop-test .left))
+
+pub check-states-spec : {M : Type 1} → statement M
+check-states-spec =
+    tie.close
+    (tie.spec
+    Inv-loop
+    μ-loop
+    loop-holds
+    check-state-requires
+    enum-told
+    enum-told-2
+    returns
+    add-i
+    loop-less
+    loop-again
+    returns-2)

@@ -1,0 +1,21 @@
+use mathlib.Core.Path.{refl}
+use native.Mathlib.Nat.{mul-le-mul}
+use native.Mathlib.Omega.{arith}
+use Rattle.basics.proofs.Lists.{flat-below}
+use Rattle.basics.proofs.Tests.{fits-mul}
+use Rattle.mirrored.proofs.place.Statement.{statement}
+use Rattle.mirrored.proofs.place.Tie as tie
+
+mul-result : tie.Need-mul-result
+mul-result c = fits-mul 256 256 (omega arith) (omega arith) tt
+
+add-result : tie.Need-add-result
+add-result c =
+    omega
+    (arith, flat-below (c .args .n) (c .args .i) (c .args .j) (c .pre .2) (c .args .n) (c .pre .1), mul-le-mul (c .pre .0) (c .pre .0))
+
+returns : tie.Need-returns
+returns c = (refl, flat-below (c .args .n) (c .args .i) (c .args .j) (c .pre .2) (c .args .n) (c .pre .1))
+
+pub place-spec : {M : Type 1} → statement M
+place-spec = tie.close (tie.spec mul-result add-result returns)

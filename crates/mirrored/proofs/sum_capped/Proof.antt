@@ -1,0 +1,59 @@
+use Prim.Native.Nat.{_+_, _-_, _≤_, min}
+use mathlib.Core.Path.{_≡_, ap, _∙_}
+use native.Mathlib.Omega.{arith}
+use lib.ListN.{drop}
+use borrow.Author.Count.{falls}
+use Rattle.basics.specs.Lists.{sum}
+use Rattle.mirrored.specs.Lies.{cellsIn}
+use Rattle.mirrored.proofs.Sums.{sum-step, sum-end}
+use Rattle.mirrored.proofs.Readings.{cells-length}
+use Rattle.mirrored.proofs.sum_capped.Statement.{statement}
+use Rattle.mirrored.proofs.sum_capped.Tie as tie
+
+abbrev Inv-loop : tie.InvT-loop
+Inv-loop t b imaged n a₀ i₀ a i =
+    (a ≤ 9007199254740993) × (min 9007199254740993 (a + sum (drop i (cellsIn imaged t b))) ≡ min 9007199254740993 (sum (cellsIn imaged t b)))
+
+abbrev μ-loop : tie.MeasureT-loop
+μ-loop t b imaged n a₀ i₀ a i = n - i
+
+loop-holds : tie.Need-loop-holds Inv-loop μ-loop
+loop-holds c = (omega arith, ap (min 9007199254740993) (omega arith))
+
+cell-in-requires : tie.Need-cell-in-requires Inv-loop μ-loop
+cell-in-requires c κs = (c .before .before .before .before .pre, c .loop-test .taken)
+
+add-capped-requires : tie.Need-add-capped-requires Inv-loop μ-loop
+add-capped-requires c κs = c .before .before .loop .inv .0
+
+add-i : tie.Need-add-i Inv-loop μ-loop
+add-i c = omega arith
+
+loop-less : tie.Need-loop-less Inv-loop μ-loop
+loop-less c = falls (c .before .before .before .before .before .before .args .n) (c .before .before .before .loop .i) (c .before .before .loop-test .taken)
+
+loop-again : tie.Need-loop-again Inv-loop μ-loop
+loop-again c =
+    let a = c .before .before .before .before .before .before .args in
+    let l = c .before .before .before .loop in
+    (omega (arith, c .add-capped .ensures), sum-step _ (a .n) (l .i) (l .a) (c .before .cell-in .result) (c .add-capped .result) (cells-length _ _ (a .t .now) (a .b .now) (c .before .before .before .before .before .before .pre)) (c .before .before .loop-test .taken) (c .before .cell-in .ensures) (c .add-capped .ensures) ∙ l .inv .1)
+
+returns : tie.Need-returns Inv-loop μ-loop
+returns c =
+    let a = c .before .before .before .before .args in
+    let l = c .before .loop in
+    sum-end _ (a .n) (l .i) (l .a) (cells-length _ _ (a .t .now) (a .b .now) (c .before .before .before .before .pre)) (c .loop-test .left) (l .inv .0) ∙ l .inv .1
+
+pub sum-capped-spec : {M : Type 1} → statement M
+sum-capped-spec =
+    tie.close
+    (tie.spec
+    Inv-loop
+    μ-loop
+    loop-holds
+    cell-in-requires
+    add-capped-requires
+    add-i
+    loop-less
+    loop-again
+    returns)
