@@ -1,16 +1,16 @@
--- Counts and sums of appended lists, lists made by a function of the place, and flat squares.
+-- Counts and sums of appended lists, lists made by a function of the place and their sums, and flat squares.
 use mathlib.Core.Path.{_≡_, refl, sym, _∙_, ap}
 use mathlib.Core.Logic.{_≢_}
 use mathlib.Core.Bool.{Bool}
 use mathlib.Core.List.{List, [], _∷_, _++_}
 use Prim.Native.Nat.{ℕ, zero, suc, _+_, _*_, _/_, _%_, _<_, max, suc-le-suc}
-use native.Mathlib.Nat.{not-suc-le-zero, le-of-suc-le-suc, zero-lt-suc, zero-add, add-zero, add-assoc, mul-le-mul-right, mul-add-div-right, mul-add-mod-self-right, div-eq-of-lt, mod-eq-of-lt}
+use native.Mathlib.Nat.{not-suc-le-zero, le-of-suc-le-suc, zero-lt-suc, suc-ne-zero, suc-inj, zero-add, add-zero, add-assoc, mul-le-mul-right, mul-add-div-right, mul-add-mod-self-right, div-eq-of-lt, mod-eq-of-lt, div-add-mod'}
 use native.Mathlib.Omega.{arith}
 use native.Mathlib.Decide.{ℕ-discrete}
 use lib.IntN.{ℤ, _+ℤ_, +ℤ-idl, +ℤ-idr, +ℤ-assoc}
 use lib.ListN.{length, getD, set, replicate, length-set, length-replicate, getD-replicate}
 use lib.Seq.{ext-getD, getD-set-same, getD-set-other}
-use Rattle.basics.specs.Lists.{bit, count, sumOf, greatest, tab, square}
+use Rattle.basics.specs.Lists.{bit, count, sumOf, greatest, tab, square, sum}
 
 module _ {A : Type 0} where
   pub count-append : (p : A → Bool) (xs ys : List A) → count p (xs ++ ys) ≡ count p xs + count p ys
@@ -63,6 +63,18 @@ module _ {A : Type 0} where
       at : (m : ℕ) → m < length (set (tab n f) k a) → getD (set (tab n f) k a) m a ≡ getD (tab n g) m a
       at m b = go m (rw (length-set (tab n f) k a, length-tab n f) at b) (ℕ-discrete m k)
 
+  -- a list is made by what stands at its places
+  pub tab-getD : (l : List A) (n : ℕ) (d : A) → length l ≡ n → tab n (λ k. getD l k d) ≡ l
+  tab-getD [] zero d e = refl
+  tab-getD [] (suc n) d e = absurd (suc-ne-zero n (sym e))
+  tab-getD (x ∷ xs) zero d e = absurd (suc-ne-zero (length xs) e)
+  tab-getD (x ∷ xs) (suc n) d e = ap (λ (r : List A). x ∷ r) (tab-getD xs n d (suc-inj e))
+
+  pub square-getD : (N : ℕ) (l : List A) (d : A) → length l ≡ N * N → square N (λ i j. getD l (i * N + j) d) ≡ l
+  square-getD N l d e =
+      tab-ext (N * N) (λ k. getD l (k / N * N + k % N) d) (λ k. getD l k d) (λ k b. ap (λ (n : ℕ). getD l n d) (div-add-mod' k N))
+      ∙ tab-getD l (N * N) d e
+
 -- filling a list with v, from the first place up: what stands below i, one more, and all of it
 pub filled-more : {A : Type 0} (l : List A) (i : ℕ) (v d : A) → i < length l → ((k : ℕ) → k < i → getD l k d ≡ v) → (k : ℕ) → k < i + 1 → getD (set l i v) k d ≡ v
 filled-more l i v d h below k b = go (ℕ-discrete k i)
@@ -90,3 +102,27 @@ pub getD-square : {A : Type 0} (N : ℕ) (f : ℕ → ℕ → A) (i j : ℕ) (d 
 getD-square {A} N f i j d hi hj =
     getD-tab (N * N) (λ k. f (k / N) (k % N)) (i * N + j) d (flat-below N i j hj N hi)
     ∙ (λ t. f (flat-row N i j hj t) (flat-column N i j hj t))
+
+-- ---- sums
+
+pub sum-tab-add : (n : ℕ) (f g : ℕ → ℕ) → sum (tab n (λ k. f k + g k)) ≡ sum (tab n f) + sum (tab n g)
+sum-tab-add zero f g = refl
+sum-tab-add (suc n) f g = omega (arith, sum-tab-add n (λ k. f (suc k)) (λ k. g (suc k)))
+
+pub sum-tab-zero : (n : ℕ) (f : ℕ → ℕ) → ((k : ℕ) → k < n → f k ≡ 0) → sum (tab n f) ≡ 0
+sum-tab-zero zero f h = refl
+sum-tab-zero (suc n) f h =
+    omega (arith, h zero (zero-lt-suc n), sum-tab-zero n (λ k. f (suc k)) (λ k b. h (suc k) (suc-le-suc b)))
+
+-- of a function that is 0 but at k
+pub sum-tab-one : (n : ℕ) (f : ℕ → ℕ) (k : ℕ) → k < n → ((m : ℕ) → m < n → m ≢ k → f m ≡ 0) → sum (tab n f) ≡ f k
+sum-tab-one zero f k h o = absurd (not-suc-le-zero h)
+sum-tab-one (suc n) f zero h o =
+    omega (arith, sum-tab-zero n (λ m. f (suc m)) (λ m b. o (suc m) (suc-le-suc b) (suc-ne-zero m)))
+sum-tab-one (suc n) f (suc k) h o =
+    omega
+    (arith, o zero (zero-lt-suc n) (λ p. suc-ne-zero k (sym p)), sum-tab-one n (λ m. f (suc m)) k (le-of-suc-le-suc h) (λ m b q. o (suc m) (suc-le-suc b) (λ p. q (suc-inj p))))
+
+pub sum-replicate : (n : ℕ) → sum (replicate n 0) ≡ 0
+sum-replicate zero = refl
+sum-replicate (suc n) = omega (arith, sum-replicate n)

@@ -1,3 +1,4 @@
 pub mod Room
 pub mod Ways
 pub mod Step
+pub mod Memories

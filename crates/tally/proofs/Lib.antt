@@ -1,2 +1,4 @@
 pub mod Step
 pub mod Touched
+pub mod Balance
+pub mod Overs

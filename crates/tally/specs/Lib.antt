@@ -3,3 +3,4 @@ pub mod Events
 pub mod Limits
 pub mod Fits
 pub mod Rules
+pub mod Balance

@@ -60,3 +60,8 @@ memoryOf R l c qs =
       last = carried R l qs;
       counts = after (R .kinds) (R .states) (R .mirror) c (events R l qs);
     }
+
+-- an event of the kinds and the states, each
+abbrev pub AllIn : ℕ → ℕ → List Event → Type 0
+AllIn K N [] = Unit {0}
+AllIn K N (e ∷ es) = InRange K N e × AllIn K N es

@@ -77,3 +77,7 @@ words-join (suc m) n b =
 pub twos-back : (ws : List ℕ) → AllWords ws → map twos (map untwos ws) ≡ ws
 twos-back [] a = refl
 twos-back (w ∷ ws) a = λ i. ofZ-toZ {w = w64} {n = w} (record { fits = a .0 }) i ∷ twos-back ws (a .1) i
+
+pub all-append : (xs ys : List ℕ) → AllWords xs → AllWords ys → AllWords (xs ++ ys)
+all-append [] ys a b = b
+all-append (x ∷ xs) ys a b = (a .0, all-append xs ys (a .1) b)

@@ -1,0 +1,7 @@
+pub mod Signs
+pub mod Order
+pub mod Rounding
+pub mod Sizes
+pub mod Whole
+pub mod Within
+pub mod Helpers

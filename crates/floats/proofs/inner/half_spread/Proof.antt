@@ -1,0 +1,17 @@
+use borrow.Author.Needs.{needs}
+use Rattle.floats.specs.Floats.{half}
+use Rattle.floats.proofs.inner.half_spread.Statement.{statement}
+use Rattle.floats.proofs.inner.half_spread.Tie as tie
+
+mul-from-u64 : tie.Need-mul-from-u64
+mul-from-u64 c = search needs
+
+from-u64-requires : tie.Need-from-u64-requires
+from-u64-requires c κs = search needs
+
+returns : tie.Need-returns
+unfolding half
+returns c = cc
+
+pub half-spread-spec : {M : Type 1} → statement M
+half-spread-spec = tie.close (tie.spec mul-from-u64 from-u64-requires returns)

@@ -1,0 +1,11 @@
+use lib.Ieee.{div, neg, ofBits}
+use Rattle.floats.proofs.Helpers.{infinite-equals}
+use Rattle.floats.proofs.is_infinite.Statement.{statement}
+use Rattle.floats.proofs.is_infinite.Tie as tie
+
+returns : tie.Need-returns
+unfolding div neg ofBits
+returns c = infinite-equals (c .args .x)
+
+pub is-infinite-spec : {M : Type 1} → statement M
+is-infinite-spec = tie.close (tie.spec returns)

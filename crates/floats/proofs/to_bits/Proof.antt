@@ -1,0 +1,18 @@
+use borrow.Author.Needs.{needs}
+use lib.Ieee.{toBits}
+use Rattle.floats.proofs.Helpers.{nan-is, no-nan}
+use Rattle.floats.proofs.to_bits.Statement.{statement}
+use Rattle.floats.proofs.to_bits.Tie as tie
+
+returns : tie.Need-returns
+unfolding toBits
+returns c = rw (nan-is _ (c .if1 .taken))
+
+float-to-bits-result : tie.Need-float-to-bits-result
+float-to-bits-result c = rw (no-nan _ (c .if1 .left)) tt
+
+returns-2 : tie.Need-returns-2
+returns-2 c = search needs
+
+pub to-bits-spec : {M : Type 1} → statement M
+to-bits-spec = tie.close (tie.spec returns float-to-bits-result returns-2)

@@ -1,0 +1,245 @@
+-- The list claim: what the operations do, call by call, is what the history says. A history's memory is seen through its named laws alone.
+use Prim.Native.Nat.{ℕ}
+use mathlib.Core.Path.{_≡_, refl, sym, ap, subst, _∙_}
+use mathlib.Core.Bool.{Bool, true, false, not, _&&_, _||_}
+use mathlib.Core.List.{List, [], _∷_}
+use mathlib.Core.Option.{Option, none, some}
+use native.Mathlib.Omega.{arith}
+use lib.Dec.{T, eqb}
+use lib.ListN.{length}
+use borrow.Author.Tests.{eqb-true}
+use Rattle.basics.proofs.Tests.{both}
+use Rattle.quotes.specs.Configuration.{states, valid}
+use Rattle.quotes.specs.Known.{Valid}
+use Rattle.quotes.specs.Quotes.{checkQuote}
+use Rattle.quotes.specs.Refusals.{refuseIf, firstOf}
+use Rattle.quotes.specs.declared.Check.{Check}
+use Rattle.quotes.specs.declared.Check.the-variants.{Fine, Refused}
+use Rattle.quotes.specs.declared.MicroPriceConfig.{MicroPriceConfig}
+use Rattle.quotes.specs.declared.TopOfBook.{TopOfBook}
+use Rattle.quotes.proofs.Known.{valid-known}
+use Rattle.quotes.proofs.Refusals.{if-fine, first-fine}
+use Rattle.tally.specs.Limits.{over}
+use Rattle.tally.specs.Rules.{Memory, step}
+use Rattle.tally.proofs.Step.{step-memory}
+use Rattle.tally.proofs.Balance.{after-none}
+use Rattle.words.specs.Words.{AllWords}
+use Rattle.calibrator.specs.Record.{answered}
+use Rattle.calibrator.specs.Observe.{rule, fresh, judge, refusalBy, earlier}
+use Rattle.calibrator.specs.declared.Previous.{Previous}
+use Rattle.calibrator.specs.declared.Previous.the-variants.{Nothing, Quoted}
+use Rattle.calibrator.proofs.Step.{rule-lawful}
+use Rattle.image.specs.Layout.{image, previousWords, sameWords}
+use Rattle.image.specs.Image.{savedUnless, saveRefusal, endRestore, Taken, restored, lentWrong}
+use Rattle.image.specs.declared.Restored.{Restored}
+use Rattle.image.specs.declared.Restored.the-variants as Restored
+use Rattle.history.specs.Calls.{Call, quote, save, restore, observes, saves, restores, Acted, acted, afterRestore, act, run, History, newHistory, gains, historyMemory, historyRefusal, Kept, Past, newPast, orElse, keptWith, Told, told, tellQuote, tellSave, tellRestore, wrongRoom, tell, story, isSome, isRefused, Proper, OwnImages, ConfigWords}
+use Rattle.history.proofs.Holds.{Holds, new-holds, step-holds, quote-first, save-first, image-back}
+
+same-words : (xs ys : List ℕ) → sameWords xs ys ≡ true → xs ≡ ys
+same-words [] [] e = refl
+same-words [] (y ∷ ys) e = absurd (let z : _≡_ {A = ℕ} 0 1 = cc in omega arith)
+same-words (x ∷ xs) [] e = absurd (let z : _≡_ {A = ℕ} 0 1 = cc in omega arith)
+same-words (x ∷ xs) (y ∷ ys) e =
+    let p = both (eqb x y) (sameWords xs ys) e in
+    λ i. eqb-true x y (p .0) i ∷ same-words xs ys (p .1) i
+
+module _ (c : MicroPriceConfig) (e : valid c ≡ true) (fits : ConfigWords c) where
+  v : Valid c
+  v = valid-known c e
+
+  -- its record and tables hold
+  abbrev Sound : History → Type 0
+  Sound H = Holds c (historyMemory c H)
+
+  -- each kept image is that of the history kept with it
+  abbrev AllKept : List Kept → Type 0
+  AllKept [] = Unit {0}
+  AllKept (k ∷ ks) = (k .bytes ≡ image c (historyMemory c (k .history))) × Sound (k .history) × AllKept ks
+
+  record Good (P : Past) : Type 0 where
+    now-sound : Sound (P .now)
+    all-kept : AllKept (P .kept)
+
+  record Agrees (a : Acted) (t : Told) : Type 0 where
+    answers : a .answer ≡ t .answer
+    memories : a .left ≡ historyMemory c (t .past .now)
+    good : Good (t .past)
+
+  -- ---- a quote
+
+  grown : (H : History) (q : TopOfBook) → step (rule c) (historyMemory c H) q ≡ historyMemory c (gains H q)
+  grown H q = step-memory (rule c) (rule-lawful c v) Nothing (H .start) (H .quotes) q
+
+  pub refusal-is : (H : History) → Sound H → (q : TopOfBook) → refusalBy (rule c) (judge c) (historyMemory c H) q ≡ historyRefusal c H q
+  refusal-is H h q =
+      quote-first c e (historyMemory c H) h q
+      ∙ ap (λ (m : Memory Previous). firstOf (firstOf (checkQuote c q) (refuseIf (earlier (historyMemory c H .last) q) 5)) (refuseIf (over (m .counts)) 6)) (grown H q)
+
+  sound-gains : (H : History) → Sound H → (q : TopOfBook) → AllWords (previousWords (Quoted q)) → historyRefusal c H q ≡ Fine → Sound (gains H q)
+  sound-gains H h q words fine =
+      let f = first-fine (firstOf (checkQuote c q) (refuseIf (earlier (historyMemory c H .last) q) 5)) (refuseIf (over (historyMemory c (gains H q) .counts)) 6) fine in
+      let g = first-fine (checkQuote c q) (refuseIf (earlier (historyMemory c H .last) q) 5) (f .0) in
+      let inside : over (step (rule c) (historyMemory c H) q .counts) ≡ false = ap (λ (m : Memory Previous). over (m .counts)) (grown H q) ∙ if-fine (over (historyMemory c (gains H q) .counts)) 6 (f .1) in
+      subst (Holds c) (grown H q) (step-holds c v (historyMemory c H) h q words (g .0) inside)
+
+  quote-agrees : (P : Past) → Good P → (q : TopOfBook) → AllWords (previousWords (Quoted q)) → Agrees (act c (historyMemory c (P .now)) (quote q)) (tell c P (quote q))
+  quote-agrees P G q words = go (refusalBy (rule c) (judge c) m q) (historyRefusal c (P .now) q) (refusal-is (P .now) (G .now-sound) q) (λ f. f)
+    where
+      m : Memory Previous
+      m = historyMemory c (P .now)
+
+      go : (k : Check) (k′ : Check) → k ≡ k′ → (k′ ≡ Fine → historyRefusal c (P .now) q ≡ Fine) → Agrees (acted (observes (answered k m (step (rule c) m q) .answer)) (answered k m (step (rule c) m q) .left)) (tellQuote k′ P (gains (P .now) q))
+      go k Fine f g =
+          rw f
+          (record {
+            answers = refl;
+            memories = grown (P .now) q;
+            good =
+                record {
+                  now-sound = sound-gains (P .now) (G .now-sound) q words (g refl);
+                  all-kept = G .all-kept;
+                };
+          })
+      go k (Refused r) f g = rw f (record { answers = refl; memories = refl; good = G })
+
+  -- ---- a save
+
+  save-agrees : (P : Past) → Good P → (out : List ℕ) → Agrees (act c (historyMemory c (P .now)) (save out)) (tell c P (save out))
+  save-agrees P G out = go (saveRefusal c m (length out)) (wrongRoom c out) (save-first c e m (G .now-sound) (length out))
+    where
+      m : Memory Previous
+      m = historyMemory c (P .now)
+
+      go : (k k′ : Check) → k ≡ k′ → Agrees (acted (saves (savedUnless k out (image c m))) m) (tellSave k′ P out (image c m))
+      go k Fine f =
+          rw f
+          (record {
+            answers = refl;
+            memories = refl;
+            good = record { now-sound = G .now-sound; all-kept = (refl, G .now-sound, G .all-kept) };
+          })
+      go k (Refused r) f = rw f (record { answers = refl; memories = refl; good = G })
+
+  -- ---- a restore
+
+  record Returns (b : List ℕ) (H : History) : Type 0 where
+    sound : Sound H
+    is : b ≡ image c (historyMemory c H)
+
+  kept-is : (b : List ℕ) (ks : List Kept) (H : History) → AllKept ks → keptWith b ks ≡ some H → Returns b H
+  kept-is b [] H a f = absurd (let z : _≡_ {A = ℕ} 0 1 = cc in omega arith)
+  kept-is b (k ∷ ks) H a f = go (λ g. kept-is b ks H (a .2) g) (sameWords b (k .bytes)) refl f
+    where
+      go : (keptWith b ks ≡ some H → Returns b H) → (t : Bool) → sameWords b (k .bytes) ≡ t → orElse t (k .history) (keptWith b ks) ≡ some H → Returns b H
+      go later true p g =
+          let is : k .history ≡ H = cc in
+          subst (Returns b) is (record { sound = a .1; is = same-words b (k .bytes) p ∙ a .0 })
+      go later false p g = later g
+
+  restore-agrees : (P : Past) → Good P → (b : List ℕ) (lent : Memory Previous) → Proper c P (restore b lent) → Agrees (act c (historyMemory c (P .now)) (restore b lent)) (tell c P (restore b lent))
+  restore-agrees P G b lent p = go (restored b lent) refl (lentWrong (states c) (lent .counts .tables)) refl (keptWith b (P .kept)) refl p
+    where
+      m : Memory Previous
+      m = historyMemory c (P .now)
+
+      other : (a : Restored) (filled : Memory Previous) → T (isRefused a) → Agrees (acted (restores a) (afterRestore a m filled)) (told (restores a) P)
+      other (Restored.Config d) filled f = absurd f
+      other (Restored.Refused r) filled f = record { answers = refl; memories = refl; good = G }
+
+      go : (t : Taken) → restored b lent ≡ t → (w : Bool) → lentWrong (states c) (lent .counts .tables) ≡ w → (o : Option History) → keptWith b (P .kept) ≡ o → T ((not w && isSome o) || isRefused (t .answer)) → Agrees (acted (restores (t .answer)) (afterRestore (t .answer) m (t .left))) (tellRestore c P (t .answer) w o)
+      go t et true ew o eo f = other (t .answer) (t .left) f
+      go t et false ew none eo f = other (t .answer) (t .left) f
+      go t et false ew (some H) eo f =
+          let r = kept-is b (P .kept) H (G .all-kept) eo in
+          let back : t ≡ endRestore (Restored.Config c) (historyMemory c H) = sym et ∙ ap (λ (x : List ℕ). restored x lent) (r .is) ∙ image-back c e fits (historyMemory c H) (r .sound) lent ew in
+          rw back
+          (record {
+            answers = refl;
+            memories = refl;
+            good = record { now-sound = r .sound; all-kept = G .all-kept };
+          })
+
+  -- ---- the list
+
+  call-agrees : (P : Past) → Good P → (k : Call) → Proper c P k → Agrees (act c (historyMemory c (P .now)) k) (tell c P k)
+  call-agrees P G (quote q) p = quote-agrees P G q p
+  call-agrees P G (save out) p = save-agrees P G out
+  call-agrees P G (restore b lent) p = restore-agrees P G b lent p
+
+  pub record Claim (P : Past) (ks : List Call) : Type 0 where
+    pub answers : run c (historyMemory c (P .now)) ks .answers ≡ story c P ks .answers
+    pub memories : run c (historyMemory c (P .now)) ks .left ≡ historyMemory c (story c P ks .past .now)
+    pub holds : Holds c (historyMemory c (story c P ks .past .now))
+
+  from-here : (ks : List Call) (P : Past) → Good P → OwnImages c P ks → Claim P ks
+  from-here [] P G o = record { answers = refl; memories = refl; holds = G .now-sound }
+  from-here (k ∷ ks) P G o =
+      let s = call-agrees P G k (o .0) in
+      let rest = from-here ks (tell c P k .past) (s .good) (o .1) in
+      record {
+        answers =
+            λ i. s .answers i ∷ (ap (λ (m : Memory Previous). run c m ks .answers) (s .memories) ∙ rest .answers) i;
+        memories = ap (λ (m : Memory Previous). run c m ks .left) (s .memories) ∙ rest .memories;
+        holds = rest .holds;
+      }
+
+  pub empty-is : historyMemory c (newHistory c) ≡ fresh c
+  empty-is =
+      λ i.
+      record {
+        last = Nothing;
+        counts = after-none (rule c .kinds) (states c) (rule c .mirror) (fresh c .counts) (new-holds c v .sized) i;
+      }
+
+  -- every list of calls on a new calibrator
+  pub list-claim : (ks : List Call) → OwnImages c (newPast c) ks → Claim (newPast c) ks
+  list-claim ks o =
+      from-here ks (newPast c)
+      (record { now-sound = subst (Holds c) (sym empty-is) (new-holds c v); all-kept = tt })
+      o
+
+-- every history of the list starts at new's counts
+abbrev AllNew : MicroPriceConfig → List Kept → Type 0
+AllNew c [] = Unit {0}
+AllNew c (k ∷ ks) = (k .history .start ≡ fresh c .counts) × AllNew c ks
+
+module _ (c : MicroPriceConfig) where
+  record New (P : Past) : Type 0 where
+    now-new : P .now .start ≡ fresh c .counts
+    kept-new : AllNew c (P .kept)
+
+  found-new : (b : List ℕ) (ks : List Kept) (H : History) → AllNew c ks → keptWith b ks ≡ some H → H .start ≡ fresh c .counts
+  found-new b [] H a f = absurd (let z : _≡_ {A = ℕ} 0 1 = cc in omega arith)
+  found-new b (k ∷ ks) H a f = go (λ g. found-new b ks H (a .1) g) (sameWords b (k .bytes)) f
+    where
+      go : (keptWith b ks ≡ some H → H .start ≡ fresh c .counts) → (t : Bool) → orElse t (k .history) (keptWith b ks) ≡ some H → H .start ≡ fresh c .counts
+      go later true g =
+          let is : k .history ≡ H = cc in
+          subst (λ (x : History). x .start ≡ fresh c .counts) is (a .0)
+      go later false g = later g
+
+  tell-new : (P : Past) → New P → (k : Call) → New (tell c P k .past)
+  tell-new P n (quote q) = go (historyRefusal c (P .now) q)
+    where
+      go : (k : Check) → New (tellQuote k P (gains (P .now) q) .past)
+      go Fine = record { now-new = n .now-new; kept-new = n .kept-new }
+      go (Refused r) = n
+  tell-new P n (save out) = go (wrongRoom c out)
+    where
+      go : (k : Check) → New (tellSave k P out (image c (historyMemory c (P .now))) .past)
+      go Fine = record { now-new = n .now-new; kept-new = (n .now-new, n .kept-new) }
+      go (Refused r) = n
+  tell-new P n (restore b lent) = go (lentWrong (states c) (lent .counts .tables)) (keptWith b (P .kept)) refl
+    where
+      go : (w : Bool) (o : Option History) → keptWith b (P .kept) ≡ o → New (tellRestore c P (restored b lent .answer) w o .past)
+      go true o f = n
+      go false none f = n
+      go false (some H) f = record { now-new = found-new b (P .kept) H (n .kept-new) f; kept-new = n .kept-new }
+
+  all-new : (ks : List Call) (P : Past) → New P → story c P ks .past .now .start ≡ fresh c .counts
+  all-new [] P n = n .now-new
+  all-new (k ∷ ks) P n = all-new ks (tell c P k .past) (tell-new P n k)
+
+  pub starts-new : (ks : List Call) → story c (newPast c) ks .past .now .start ≡ fresh c .counts
+  starts-new ks = all-new ks (newPast c) (record { now-new = refl; kept-new = tt })

@@ -1,0 +1,57 @@
+-- Demand 3, of one configuration and one list of calls: document 01, "The history".
+use Prim.Native.Nat.{ℕ, _+_, _*_, _-_, _<_}
+use mathlib.Core.Path.{_≡_}
+use mathlib.Core.List.{List}
+use lib.IntN.{pos}
+use lib.ListN.{length, getD}
+use Rattle.basics.specs.Lists.{count, greatest, sum, tab}
+use Rattle.quotes.specs.Configuration.{states}
+use Rattle.quotes.specs.States.{mirrorOf}
+use Rattle.quotes.specs.declared.Check.the-variants.{Fine}
+use Rattle.quotes.specs.declared.MicroPriceConfig.{MicroPriceConfig}
+use Rattle.quotes.specs.declared.TopOfBook.{TopOfBook}
+use Rattle.tally.specs.Entries.{Entry}
+use Rattle.tally.specs.Events.{Event, entries, stayAt, movedAt, totalAt, isPair, isSkip, sizeOf}
+use Rattle.tally.specs.Rules.{Memory, events}
+use Rattle.tally.specs.Balance.{Balanced}
+use Rattle.calibrator.specs.Observe.{rule, fresh, observed}
+use Rattle.calibrator.specs.declared.Previous.{Previous}
+use Rattle.calibrator.specs.declared.Previous.the-variants.{Nothing}
+use Rattle.image.specs.Layout.{imageLength, image}
+use Rattle.image.specs.Image.{saved, endSave}
+use Rattle.history.specs.Calls.{Call, run, History, historyMemory, historyRefusal, newPast, story}
+
+-- what the operations leave after the list, and the history after it
+abbrev pub left : MicroPriceConfig → List Call → Memory Previous
+left c ks = run c (fresh c) ks .left
+
+abbrev pub historyOf : MicroPriceConfig → List Call → History
+historyOf c ks = story c (newPast c) ks .past .now
+
+-- its neighbours, and its counted pairs, each followed by its mirror
+abbrev pub neighboursIn : MicroPriceConfig → History → List Event
+neighboursIn c H = events (rule c) Nothing (H .quotes)
+
+abbrev pub flow : MicroPriceConfig → History → List Entry
+flow c H = entries (rule c .mirror) (neighboursIn c H)
+
+pub record Demand3 (c : MicroPriceConfig) (ks : List Call) : Type 0 where
+  -- every answer and saved image, and after the list the record and tables, are the history's
+  pub answers : run c (fresh c) ks .answers ≡ story c (newPast c) ks .answers
+  pub memory : left c ks ≡ historyMemory c (historyOf c ks)
+  -- each cell is the pairs and mirrors that go its way, each total the sum of the changes of those from its state
+  pub stay-is : (i j : ℕ) → i < states c → j < states c → getD (left c ks .counts .tables .stay) (i * states c + j) 0 ≡ stayAt (flow c (historyOf c ks)) i j
+  pub moved-is : (i j : ℕ) → i < states c → j < states c → getD (left c ks .counts .tables .moved) (i * states c + j) 0 ≡ movedAt (flow c (historyOf c ks)) i j
+  pub total-is : (i : ℕ) → i < states c → getD (left c ks .counts .tables .totals) i (pos 0) ≡ totalAt (flow c (historyOf c ks)) i
+  -- each counter is the number of its neighbours, the largest change their greatest
+  pub pairs-are : left c ks .counts .pairs ≡ count isPair (neighboursIn c (historyOf c ks))
+  pub skips-are : left c ks .counts .skips ≡ tab (rule c .kinds) (λ k. count (isSkip k) (neighboursIn c (historyOf c ks)))
+  pub largest-is : left c ks .counts .largest ≡ greatest sizeOf (neighboursIn c (historyOf c ks))
+  -- pairs and skips are the quotes less one, and 0 for none
+  pub neighbours-are : left c ks .counts .pairs + sum (left c ks .counts .skips) ≡ length (historyOf c ks .quotes) - 1
+  -- mirrored cells and totals, and twice the pairs
+  pub balanced : Balanced (states c) (mirrorOf (c .«imbalance_buckets»)) (left c ks .counts)
+  -- a quote after the list is refused as the history refuses it, 6 by 6
+  pub quote-refused : (q : TopOfBook) → observed c (left c ks) q .answer ≡ historyRefusal c (historyOf c ks) q
+  -- a save after the list, with an output of the image's length, is not refused
+  pub save-fine : (out : List ℕ) → length out ≡ imageLength c → saved c (left c ks) out ≡ endSave Fine (image c (historyMemory c (historyOf c ks)))

@@ -1,0 +1,1 @@
+// Demand 3: what a list of quotes, saves and restores comes to (document 01, "The history"). No code.

@@ -1,0 +1,65 @@
+use native.Mathlib.Omega.{arith}
+use Prim.Native.Nat.{_≤_, _-_}
+use mathlib.Core.Path.{_≡_, refl}
+use mathlib.Core.Logic.{inl, inr, ⊎-elim}
+use lib.ListN.{length}
+use Rattle.linear.specs.Loops.{ClearedRows}
+use Rattle.linear.proofs.Parts.{row-in}
+use Rattle.linear.proofs.Rows.{cleared-rows-none, cleared-rows-more}
+use Rattle.linear.proofs.inner.clear_rows.Statement.{statement}
+use Rattle.linear.proofs.inner.clear_rows.Tie as tie
+
+abbrev Inv-loop : tie.InvT-loop
+Inv-loop rows₀ w c lo hi r₀ rows r = (lo ≤ r) × (r ≤ hi) × (length rows ≡ length rows₀) × ClearedRows w c lo r rows₀ rows
+
+abbrev μ-loop : tie.MeasureT-loop
+μ-loop rows₀ w c lo hi r₀ rows r = hi - r
+
+loop-holds : tie.Need-loop-holds Inv-loop μ-loop
+loop-holds c = (omega arith, omega arith, refl, cleared-rows-none)
+
+clear-row-requires : tie.Need-clear-row-requires Inv-loop μ-loop
+clear-row-requires c κs =
+    let a = c .before .before .before .before .args in (
+      omega arith,
+      omega arith,
+      omega (arith, row-in (c .before .before .loop .r) (a .hi) (a .w) (omega arith)),
+      ⊎-elim (λ q. omega arith) (λ q. omega arith) (c .before .before .before .before .pre .4),
+    )
+
+add-r : tie.Need-add-r Inv-loop μ-loop
+add-r c = omega arith
+
+loop-less : tie.Need-loop-less Inv-loop μ-loop
+loop-less c = omega arith
+
+loop-again : tie.Need-loop-again Inv-loop μ-loop
+loop-again c =
+    let a = c .before .before .before .before .before .before .before .args in (
+      omega arith,
+      omega arith,
+      omega arith,
+      cleared-rows-more (a .w) (a .c) (a .lo) (c .before .before .before .before .before .loop .r) _ _ _ (omega arith) (omega arith) (⊎-elim (λ q. inl q) (λ q. inr (omega arith)) (c .before .before .before .before .before .before .before .pre .4)) (c .before .before .before .before .before .loop .inv .3) (c .before .before .clear-row .ensures),
+    )
+
+same-length : tie.Need-same-length Inv-loop μ-loop
+same-length c = omega arith
+
+returns : tie.Need-returns Inv-loop μ-loop
+returns c =
+    let done : c .before .loop .r ≡ c .before .before .before .args .hi = omega arith in
+    rw done at (c .before .loop .inv .3)
+
+pub clear-rows-spec : {M : Type 1} → statement M
+clear-rows-spec =
+    tie.close
+    (tie.spec
+    Inv-loop
+    μ-loop
+    loop-holds
+    clear-row-requires
+    add-r
+    loop-less
+    loop-again
+    same-length
+    returns)
