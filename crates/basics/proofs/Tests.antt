@@ -1,5 +1,5 @@
--- What tests that hold or fail say of their parts, and that products fit a word.
-use Prim.Native.Nat.{ℕ, _*_, _^_, _≤_, _<_}
+-- What tests that hold or fail say of their parts, that products fit a word, and what is left of a count.
+use Prim.Native.Nat.{ℕ, suc, _+_, _-_, _*_, _^_, _≤_, _<_}
 use mathlib.Core.Path.{_≡_, refl, sym}
 use mathlib.Core.Bool.{Bool, true, false, _&&_, _||_}
 use mathlib.Core.Logic.{_⊎_, inl, inr}
@@ -43,3 +43,10 @@ same-test true true f g = refl
 same-test true false f g = sym (f refl)
 same-test false true f g = g refl
 same-test false false f g = refl
+
+-- what is left of a count
+pub still : (k m : ℕ) → k < m → m - k ≡ suc (m - (k + 1))
+still k m h = omega arith
+
+pub gone : (k m : ℕ) → m ≤ k → m - k ≡ 0
+gone k m h = omega arith

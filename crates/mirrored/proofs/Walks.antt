@@ -9,37 +9,32 @@ use lib.ListN.{length, getD, drop, set, drop-of-length-le}
 use lib.Seq.{drop-cons, getD-set-same, getD-set-other}
 use borrow.Author.Count.{below-more}
 use Rattle.basics.specs.Lists.{any, allFrom}
+use Rattle.basics.proofs.Tests.{still, gone}
 use Rattle.quotes.specs.Refusals.{firstOf, firstFrom}
 use Rattle.quotes.specs.declared.Check.{Check}
 use Rattle.quotes.specs.declared.Check.the-variants.{Fine, Refused}
 use Rattle.quotes.specs.declared.Refusal.{Refusal}
 
--- what is left of m after i: one more than after i + 1, nothing at the end, all at the start
-left : (i m : ℕ) → i < m → m - i ≡ suc (m - (i + 1))
-left i m h = omega arith
-
-gone : (i m : ℕ) → m ≤ i → m - i ≡ 0
-gone i m h = omega arith
-
+-- what is left of m at the start
 pub whole : (m : ℕ) → m ≡ m - 0
 whole m = omega arith
 
 module _ (p : ℕ → Bool) where
   pub all-step : (i m : ℕ) → i < m → p i ≡ true → allFrom p i (m - i) ≡ allFrom p (i + 1) (m - (i + 1))
-  all-step i m h t = rw (left i m h, t, add-one)
+  all-step i m h t = rw (still i m h, t, add-one)
 
   pub all-stop : (i m : ℕ) → i < m → p i ≡ false → allFrom p i (m - i) ≡ false
-  all-stop i m h t = rw (left i m h, t)
+  all-stop i m h t = rw (still i m h, t)
 
   pub all-end : (i m : ℕ) → m ≤ i → allFrom p i (m - i) ≡ true
   all-end i m h = rw (gone i m h)
 
 module _ (f : ℕ → Check) where
   pub first-step : (i m : ℕ) (r : Check) → i < m → r ≡ f i → r ≡ Fine → firstFrom f i (m - i) ≡ firstFrom f (i + 1) (m - (i + 1))
-  first-step i m r h e t = rw (left i m h, ← e, t, add-one)
+  first-step i m r h e t = rw (still i m h, ← e, t, add-one)
 
   pub first-stop : (i m : ℕ) (r : Check) (x : Refusal) → i < m → r ≡ f i → r ≡ Refused x → firstFrom f i (m - i) ≡ r
-  first-stop i m r x h e t = rw (left i m h, ← e, t)
+  first-stop i m r x h e t = rw (still i m h, ← e, t)
 
   pub first-end : (i m : ℕ) → m ≤ i → firstFrom f i (m - i) ≡ Fine
   first-end i m h = rw (gone i m h)

@@ -7,7 +7,6 @@ use lib.Dec.{ltb}
 use Rattle.quotes.specs.Quotes.{halfTicks}
 use Rattle.quotes.specs.States.{placeOf}
 use Rattle.quotes.specs.Neighbours.{paired, neighboursOf}
-use Rattle.quotes.specs.declared.At.{At}
 use Rattle.quotes.specs.declared.MicroPriceConfig.{MicroPriceConfig}
 use Rattle.quotes.specs.declared.Neighbours.{Neighbours}
 use Rattle.quotes.specs.declared.Neighbours.the-variants.{Skipped, Counted}

@@ -11,11 +11,39 @@ use super::Skip;
 use super::TopOfBook;
 ghost use mathlib.Core.Path.{_≡_};
 ghost use Prim.Native.Nat.{_+_, _-_, _*_, _≤_, _<_, min, max};
+ghost use Rattle.quotes.specs.Refusals.{numberOf};
 ghost use Rattle.quotes.specs.Configuration.{shape, valid, states};
 ghost use Rattle.quotes.specs.Quotes.{over, bad, onGrid, inTicks, offTick, checkQuote, spreadOf, halfTicks};
 ghost use Rattle.quotes.specs.Known.{Valid, Accepted};
 ghost use Rattle.quotes.specs.States.{lowerBucket, bucketOf, mirrorOf, placeOf};
 ghost use Rattle.quotes.specs.Neighbours.{paired, neighboursOf};
+
+// The number of a refusal.
+pub fn number_of(r: Refusal) -> u64
+    ensures { λ n. ⌜ n ≡ numberOf r ⌝ }
+{
+    match r {
+        Refusal::Configuration => 1,
+        Refusal::OverDomain => 2,
+        Refusal::BadQuote => 3,
+        Refusal::OffTick => 4,
+        Refusal::EarlierTime => 5,
+        Refusal::CountLimit => 6,
+        Refusal::SliceLength => 7,
+        Refusal::LastQuoteBroken => 8,
+        Refusal::TotalsUnmirrored => 9,
+        Refusal::CellsUnmirrored => 10,
+        Refusal::CellsNotTwicePairs => 11,
+        Refusal::ImageLayout => 12,
+        Refusal::ModelRow(_) => 13,
+        Refusal::RecordingUnsorted => 14,
+        Refusal::WindowBackward => 15,
+        Refusal::NoCalibratedState => 16,
+        Refusal::SingularTransitions => 17,
+        Refusal::NotConverged => 18,
+        Refusal::Unrepresentable => 19,
+    }
+}
 
 // Most states.
 const MAX_STATES: u64 = 256;

@@ -1,0 +1,42 @@
+-- The list of calls of this program: six words each, as specs/Replay.antt of `history` has it.
+use mathlib.Core.List.{List, [], _∷_}
+use Prim.Native.Nat.{ℕ}
+use lib.ListN.{replicate}
+use Rattle.quotes.specs.declared.MicroPriceConfig.{MicroPriceConfig}
+use Rattle.calibrator.specs.Observe.{fresh}
+use Rattle.history.specs.Replay.{Site}
+
+-- three states; an image has 328 bytes
+abbrev pub setup : MicroPriceConfig
+setup =
+    record {
+      «tick_size» = 1;
+      «imbalance_buckets» = 3;
+      «spread_states» = 1;
+      «min_state_observations» = 1;
+      «max_quote_gap_ms» = 1000;
+    }
+
+abbrev pub journal : List ℕ
+journal =
+    0 ∷ 1000 ∷ 100 ∷ 101 ∷ 1 ∷ 1 ∷
+    0 ∷ 1500 ∷ 101 ∷ 102 ∷ 1 ∷ 3 ∷
+    1 ∷ 0 ∷ 328 ∷ 0 ∷ 0 ∷ 0 ∷
+    0 ∷ 1600 ∷ 101 ∷ 102 ∷ 3 ∷ 1 ∷
+    0 ∷ 1400 ∷ 101 ∷ 102 ∷ 3 ∷ 1 ∷
+    0 ∷ 5000 ∷ 101 ∷ 102 ∷ 1 ∷ 1 ∷
+    0 ∷ 5100 ∷ 101 ∷ 103 ∷ 1 ∷ 1 ∷
+    0 ∷ 5200 ∷ 0 ∷ 1 ∷ 1 ∷ 1 ∷
+    1 ∷ 328 ∷ 327 ∷ 0 ∷ 0 ∷ 0 ∷
+    1 ∷ 328 ∷ 328 ∷ 0 ∷ 0 ∷ 0 ∷
+    2 ∷ 1 ∷ 328 ∷ 0 ∷ 0 ∷ 0 ∷
+    2 ∷ 0 ∷ 328 ∷ 0 ∷ 0 ∷ 0 ∷
+    0 ∷ 1700 ∷ 100 ∷ 101 ∷ 1 ∷ 3 ∷
+    2 ∷ 0 ∷ 100 ∷ 0 ∷ 0 ∷ 0 ∷
+    0 ∷ 1700 ∷ 100 ∷ 101 ∷ 1 ∷ 1 ∷
+    1 ∷ 328 ∷ 328 ∷ 0 ∷ 0 ∷ 0 ∷
+    []
+
+-- a new calibrator, and room for two images
+abbrev pub start : Site
+start = record { memory = fresh setup; room = replicate {A = ℕ} 656 0 }
