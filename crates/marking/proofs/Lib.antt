@@ -1,0 +1,6 @@
+pub mod Below
+pub mod Decided
+pub mod Mirror
+pub mod Rows
+pub mod Turns
+pub mod Marks

@@ -1,0 +1,35 @@
+use mathlib.Core.Path.{sym, _∙_}
+use denote.Ref.{now}
+use native.Mathlib.Omega.{arith}
+use borrow.Author.Needs.{needs}
+use Rattle.marking.proofs.Rows.{row-in, first-rare, first-path, first-none}
+use Rattle.marking.proofs.first_mark.Statement.{statement}
+use Rattle.marking.proofs.first_mark.Tie as tie
+
+observations-of-requires : tie.Need-observations-of-requires
+observations-of-requires c κs = search needs
+
+returns : tie.Need-returns
+returns c =
+    let a = c .before .before .before .before .args in
+    first-rare (a .n) (a .least) (now (a .stay)) (now (a .moved)) (a .x) (omega arith)
+
+has-positive-requires : tie.Need-has-positive-requires
+has-positive-requires c κs =
+    let a = c .before .before .before .before .args in
+    let r = row-in (a .x) (a .n) (omega arith) in
+    omega arith
+
+returns-2 : tie.Need-returns-2
+returns-2 c =
+    let a = c .before .before .before .before .before .before .args in
+    first-path (a .n) (a .least) (now (a .stay)) (now (a .moved)) (a .x) (omega arith) (sym (c .before .has-positive .ensures) ∙ c .if2 .taken)
+
+returns-3 : tie.Need-returns-3
+returns-3 c =
+    let a = c .before .before .before .before .before .before .args in
+    first-none (a .n) (a .least) (now (a .stay)) (now (a .moved)) (a .x) (omega arith) (sym (c .before .has-positive .ensures) ∙ c .if2 .left)
+
+pub first-mark-spec : {M : Type 1} → statement M
+first-mark-spec =
+    tie.close (tie.spec observations-of-requires returns has-positive-requires returns-2 returns-3)

@@ -1,0 +1,71 @@
+use mathlib.Core.Path.{_≡_, refl, sym}
+use Prim.Native.Nat.{_≤_, _-_, _+_, _*_}
+use denote.Ref.{now}
+use native.Mathlib.Omega.{arith}
+use Rattle.marking.specs.Below.{sumTo}
+use Rattle.marking.specs.Marks.{cellOf}
+use Rattle.marking.proofs.Below.{sum-none, sum-more, sum-part}
+use Rattle.marking.proofs.row_sum.Statement.{statement}
+use Rattle.marking.proofs.row_sum.Tie as tie
+
+abbrev Inv-loop : tie.InvT-loop
+Inv-loop table n x start sum₀ j₀ sum j = (j ≤ n) × (start ≡ x * n) × (sum ≡ sumTo j (cellOf n table x))
+
+abbrev μ-loop : tie.MeasureT-loop
+μ-loop table n x start sum₀ j₀ sum j = n - j
+
+mul-start : tie.Need-mul-start Inv-loop μ-loop
+mul-start c = omega arith
+
+loop-holds : tie.Need-loop-holds Inv-loop μ-loop
+loop-holds c = (omega arith, refl, sym (sum-none _))
+
+add-sum : tie.Need-add-sum Inv-loop μ-loop
+add-sum c = omega arith
+
+mul-sum : tie.Need-mul-sum Inv-loop μ-loop
+mul-sum c = omega arith
+
+shared-slice-read-sum : tie.Need-shared-slice-read-sum Inv-loop μ-loop
+shared-slice-read-sum c = omega arith
+
+add-sum-2 : tie.Need-add-sum-2 Inv-loop μ-loop
+add-sum-2 c =
+    let a = c .before .before .before .args in
+    let j = c .before .before .loop .j in
+    let g : j + 1 ≤ a .n = omega arith in
+    let p = sum-part (j + 1) (a .n) (cellOf (a .n) (now (a .table)) (a .x)) g in
+    let q = sum-more j (cellOf (a .n) (now (a .table)) (a .x)) in
+    omega arith
+
+add-j : tie.Need-add-j Inv-loop μ-loop
+add-j c = omega arith
+
+loop-less : tie.Need-loop-less Inv-loop μ-loop
+loop-less c = omega arith
+
+loop-again : tie.Need-loop-again Inv-loop μ-loop
+loop-again c =
+    (omega arith, omega arith, rw sum-more (cc))
+
+returns : tie.Need-returns Inv-loop μ-loop
+returns c =
+    let done : c .before .loop .j ≡ c .before .before .args .n = omega arith in
+    rw done at (c .before .loop .inv .2)
+
+pub row-sum-spec : {M : Type 1} → statement M
+row-sum-spec =
+    tie.close
+    (tie.spec
+    Inv-loop
+    μ-loop
+    mul-start
+    loop-holds
+    add-sum
+    mul-sum
+    shared-slice-read-sum
+    add-sum-2
+    add-j
+    loop-less
+    loop-again
+    returns)

@@ -1,0 +1,4 @@
+pub mod Below
+pub mod Marks
+pub mod Mirror
+pub mod Steps

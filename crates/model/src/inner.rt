@@ -1,0 +1,52 @@
+// Inner functions: for the crates above, not for users. Where one has a `requires`, each caller proves it.
+use super::StateEstimate;
+ghost use mathlib.Core.Path.{_≡_};
+ghost use Prim.Native.Nat.{_+_, _*_, _≤_};
+ghost use lib.ListN.{length};
+ghost use lib.Seq.{sets};
+ghost use Rattle.model.specs.Rows.{floatWord, rowWords, rowAt};
+
+// A float's word, zero as plus zero.
+fn float_word(x: f64) -> u64
+    ensures { λ r. ⌜ r ≡ floatWord x ⌝ }
+{
+    floats::to_bits(floats::plus_zero(x))
+}
+
+// Writes the row of state i.
+pub fn write_row(table: &mut [u64], i: usize, e: StateEstimate)
+    requires { ⌜ 7 * i + 7 ≤ length (now table) ⌝ }
+    ensures { λ _. ⌜ now (table .exit) ≡ sets (now (table .entry)) (7 * i) (rowWords e) ⌝ }
+{
+    let first_adjustment = float_word(e.first_adjustment);
+    let adjustment = float_word(e.adjustment);
+    let fallback_within_moves = float_word(e.fallback_within_moves);
+    let at = 7 * i;
+    table[at] = e.imbalance_bucket;
+    table[at + 1] = e.spread_ticks;
+    table[at + 2] = e.observations;
+    table[at + 3] = first_adjustment;
+    table[at + 4] = adjustment;
+    table[at + 5] = fallback_within_moves;
+    table[at + 6] = e.status;
+}
+
+// Reads the row of state i.
+pub fn read_row(table: &[u64], i: usize) -> StateEstimate
+    requires { ⌜ 7 * i + 7 ≤ length (now table) ⌝ }
+    ensures { λ r. ⌜ r ≡ rowAt (now (table .entry)) i ⌝ }
+{
+    let at = 7 * i;
+    let first_adjustment = floats::from_bits(table[at + 3]);
+    let adjustment = floats::from_bits(table[at + 4]);
+    let fallback_within_moves = floats::from_bits(table[at + 5]);
+    StateEstimate {
+        imbalance_bucket: table[at],
+        spread_ticks: table[at + 1],
+        observations: table[at + 2],
+        first_adjustment: first_adjustment,
+        adjustment: adjustment,
+        fallback_within_moves: fallback_within_moves,
+        status: table[at + 6],
+    }
+}
