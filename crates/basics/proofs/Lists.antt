@@ -8,7 +8,7 @@ use native.Mathlib.Nat.{not-suc-le-zero, le-of-suc-le-suc, zero-lt-suc, suc-ne-z
 use native.Mathlib.Omega.{arith}
 use native.Mathlib.Decide.{ℕ-discrete}
 use lib.IntN.{ℤ, _+ℤ_, +ℤ-idl, +ℤ-idr, +ℤ-assoc}
-use lib.ListN.{length, getD, set, replicate, length-set, length-replicate, getD-replicate}
+use lib.ListN.{length, getD, set, replicate, length-set}
 use lib.Seq.{ext-getD, getD-set-same, getD-set-other}
 use Rattle.basics.specs.Lists.{bit, count, sumOf, greatest, tab, square, sum}
 
@@ -74,19 +74,6 @@ module _ {A : Type 0} where
   square-getD N l d e =
       tab-ext (N * N) (λ k. getD l (k / N * N + k % N) d) (λ k. getD l k d) (λ k b. ap (λ (n : ℕ). getD l n d) (div-add-mod' k N))
       ∙ tab-getD l (N * N) d e
-
--- filling a list with v, from the first place up: what stands below i, one more, and all of it
-pub filled-more : {A : Type 0} (l : List A) (i : ℕ) (v d : A) → i < length l → ((k : ℕ) → k < i → getD l k d ≡ v) → (k : ℕ) → k < i + 1 → getD (set l i v) k d ≡ v
-filled-more l i v d h below k b = go (ℕ-discrete k i)
-  where
-    go : Dec (k ≡ i) → getD (set l i v) k d ≡ v
-    go (yes e) = rw e (getD-set-same l i v d h)
-    go (no e) = getD-set-other l i k v d e ∙ below k (omega arith)
-
-pub filled : {A : Type 0} (l : List A) (v d : A) → ((k : ℕ) → k < length l → getD l k d ≡ v) → l ≡ replicate (length l) v
-filled l v d all =
-    ext-getD d l (replicate (length l) v) (sym (length-replicate (length l) v))
-    (λ k h. all k h ∙ sym (getD-replicate (length l) k v d h))
 
 module _ (N i j : ℕ) (hj : j < N) where
   pub flat-row : (i * N + j) / N ≡ i

@@ -1,9 +1,9 @@
--- What tests that hold or fail say of their parts, that products fit a word, and what is left of a count.
+-- What tests that hold or fail say of their parts, that products fit a word, that rows lie in their table, and what is left of a count.
 use Prim.Native.Nat.{ℕ, suc, _+_, _-_, _*_, _^_, _≤_, _<_}
 use mathlib.Core.Path.{_≡_, refl, sym}
 use mathlib.Core.Bool.{Bool, true, false, _&&_, _||_}
 use mathlib.Core.Logic.{_⊎_, inl, inr}
-use native.Mathlib.Nat.{lt-of-le-of-lt, mul-le-mul}
+use native.Mathlib.Nat.{lt-of-le-of-lt, mul-le-mul, mul-le-mul-right, suc-mul}
 use native.Mathlib.Omega.{arith}
 use lib.Dec.{T, leb, ltb, eqb, lit<}
 use borrow.Author.Tests.{leb-true, leb-false, eq-eqb}
@@ -17,6 +17,14 @@ both false b e = absurd (let z : _≡_ {A = ℕ} 0 1 = cc in omega arith)
 pub neither : (a b : Bool) → (a || b) ≡ false → (a ≡ false) × (b ≡ false)
 neither true b e = absurd (let z : _≡_ {A = ℕ} 0 1 = cc in omega arith)
 neither false b e = (refl, e)
+
+pub either : (a b : Bool) → (a || b) ≡ true → (a ≡ true) ⊎ (b ≡ true)
+either true b e = inl refl
+either false b e = inr e
+
+pub yes-or-no : (b : Bool) → (b ≡ true) ⊎ (b ≡ false)
+yes-or-no true = inl refl
+yes-or-no false = inr refl
 
 -- a test that does not hold is false
 pub fails : (a : Bool) → (a ≡ true → ⊥) → a ≡ false
@@ -33,6 +41,10 @@ le-or-lt a b = go (leb a b) refl
 -- a product of bounded factors fits a word
 pub fits-mul : (A B : ℕ) {a b : ℕ} → a ≤ A → b ≤ B → T (ltb (A * B) (2 ^ 64)) → Fits w64 (a * b)
 fits-mul A B p q t = record { fits = lt-of-le-of-lt (mul-le-mul p q) (lit< t) }
+
+-- row r of n rows of w lies within
+pub row-in : (r n w : ℕ) → r < n → r * w + w ≤ n * w
+row-in r n w h = rw suc-mul at (mul-le-mul-right w h)
 
 pub eqb-same : (n : ℕ) → eqb n n ≡ true
 eqb-same n = eq-eqb n n refl

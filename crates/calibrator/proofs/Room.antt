@@ -14,12 +14,12 @@ use Rattle.quotes.proofs.Known.{valid-known}
 use Rattle.quotes.proofs.Refusals.{if-fine, first-fine}
 use Rattle.calibrator.specs.Observe.{wrongLengths, checkRoom}
 
-pub record Sized (n stay moved totals : ℕ) : Type 0 where
+pub record RightLengths (n stay moved totals : ℕ) : Type 0 where
   pub stay-cells : stay ≡ n * n
   pub moved-cells : moved ≡ n * n
   pub totals-cells : totals ≡ n
 
-pub lengths-known : (n stay moved totals : ℕ) → wrongLengths n stay moved totals ≡ false → Sized n stay moved totals
+pub lengths-known : (n stay moved totals : ℕ) → wrongLengths n stay moved totals ≡ false → RightLengths n stay moved totals
 lengths-known n stay moved totals e =
     let a = neither (not (eqb stay (n * n)) || not (eqb moved (n * n))) (not (eqb totals n)) e in
     let b = neither (not (eqb stay (n * n))) (not (eqb moved (n * n))) (a .0) in

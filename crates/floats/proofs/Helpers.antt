@@ -1,17 +1,18 @@
 -- What the tests of the helpers say of a float.
 use mathlib.Core.Path.{_≡_, refl, sym, ap, _∙_, subst}
-use mathlib.Core.Bool.{Bool, true, false, not, _&&_, _||_, cond, true≢false, false≢true}
+use mathlib.Core.Bool.{Bool, true, false, not, _||_, cond, true≢false, false≢true}
 use Prim.Native.Nat.{ℕ, zero, suc, _+_, _*_, _%_, _<_, _≤_}
 use native.Mathlib.Nat.{zero-mul, mul-pos, zero-lt-suc}
 use native.Mathlib.Omega.{arith}
 use borrow.Author.Tests.{ltb-true, ltb-false, eqb-true, lt-ltb, le-ltb}
 use lib.IntN.{ℤ, pos}
 use lib.Dec.{T}
-use lib.Ieee.{Float, nan, inf, fin, binary64, up, down, neg, lt, eq, ne, fits, ofBits, isNan, nanBits}
+use lib.Ieee.{Float, nan, inf, fin, binary64, up, down, neg, div, lt, eq, ne, fits, ofBits, isNan, nanBits}
 use lib.Ieee.Fits.{up-pos}
 use lib.Ieee.Bits.{nanBits-is, nanBits-above}
 use lib.Ieee.Compare.{differs-from-itself, nan-differs}
-use Rattle.floats.specs.Floats.{abs, max, isInfinite, plusZero, posZero, fromBits}
+use Rattle.basics.proofs.Tests.{both}
+use Rattle.floats.specs.Floats.{posZero, one, two, abs, max, isInfinite, clamp, plusZero, fromBits, fromInt, half}
 use Rattle.floats.proofs.Signs.{zero-exp}
 
 -- ---- compared with zero
@@ -20,10 +21,6 @@ use Rattle.floats.proofs.Signs.{zero-exp}
 some : (m : ℕ) (e : ℤ) → 0 < suc m * up e * 1
 some m e = mul-pos (mul-pos (zero-lt-suc m) (up-pos e)) (zero-lt-suc 0)
 
-first-true : (a b : Bool) → a && b ≡ true → a ≡ true
-first-true true b h = refl
-first-true false b h = h
-
 -- equal to 0: a zero of either sign
 zero-is : (x : Float) → T (fits binary64 x) → eq x posZero ≡ true → (s : Bool) × (x ≡ fin s 0 (pos 0))
 unfolding eq ofBits
@@ -31,7 +28,7 @@ zero-is nan p h = absurd (false≢true h)
 zero-is (inf s) p h = absurd (false≢true h)
 zero-is (fin s zero e) p h = (s, ap (fin s zero) (zero-exp binary64 s e p))
 zero-is (fin s (suc m) e) p h =
-    let q : suc m * up e * 1 ≡ 0 * 1 * down e = eqb-true _ _ (first-true _ _ h) in
+    let q : suc m * up e * 1 ≡ 0 * 1 * down e = eqb-true _ _ (both _ _ h .0) in
     absurd (omega (arith, some m e, zero-mul (down e)))
 
 pub plus-zero : (x : Float) → T (fits binary64 x) → eq x posZero ≡ true → posZero ≡ plusZero x
@@ -78,11 +75,44 @@ no-nan nan h = absurd (true≢false (sym nan-differs ∙ h))
 no-nan (inf s) h = refl
 no-nan (fin s m e) h = refl
 
-pub max-other : (x y : Float) → ne x x ≡ false → max x y ≡ cond (lt x y) y x
+-- ---- the larger of two
+
+pub max-nan : (x y : Float) → ne x x ≡ true → y ≡ max x y
+unfolding max
+max-nan x y h = rw (nan-is x h)
+
+max-other : (x y : Float) → ne x x ≡ false → max x y ≡ cond (lt x y) y x
 unfolding max
 max-other nan y h = absurd (true≢false (sym nan-differs ∙ h))
 max-other (inf s) y h = refl
 max-other (fin s m e) y h = refl
+
+pub max-second : (x y : Float) → ne x x ≡ false → lt x y ≡ true → y ≡ max x y
+max-second x y h k = rw (max-other x y h, k)
+
+pub max-first : (x y : Float) → ne x x ≡ false → lt x y ≡ false → x ≡ max x y
+max-first x y h k = rw (max-other x y h, k)
+
+-- ---- half of a number of units
+
+pub half-is : (x : Float) (n : ℕ) → x ≡ fromInt (pos n) → div binary64 x two ≡ half n
+unfolding half
+half-is x n h = ap (λ (y : Float). div binary64 y two) h
+
+-- ---- clamped
+
+module _ (x : Float) where
+  pub clamp-below : lt x posZero ≡ true → posZero ≡ clamp x
+  unfolding clamp
+  clamp-below h = rw h
+
+  pub clamp-above : lt x posZero ≡ false → lt one x ≡ true → one ≡ clamp x
+  unfolding clamp
+  clamp-above h k = rw (h, k)
+
+  pub clamp-between : lt x posZero ≡ false → lt one x ≡ false → x ≡ clamp x
+  unfolding clamp
+  clamp-between h k = rw (h, k)
 
 -- ---- infinities
 

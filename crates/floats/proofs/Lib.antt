@@ -5,3 +5,4 @@ pub mod Sizes
 pub mod Whole
 pub mod Within
 pub mod Helpers
+pub mod Zeros

@@ -2,14 +2,14 @@
 use mathlib.Core.Path.{_≡_, refl, sym, ap, _∙_, subst}
 use mathlib.Core.Logic.{_⊎_, inl, inr}
 use mathlib.Core.Bool.{Bool, true, false, not, cond, Bool·not-not}
-use Prim.Native.Nat.{ℕ, zero, suc, _+_, _-_, _*_, _/_, _^_, _<_}
+use Prim.Native.Nat.{ℕ, zero, suc, _+_, _-_, _*_, _^_, _<_}
 use native.Mathlib.Nat.{mul-one, one-mul, zero-mul, mul-pos, lt-irrefl, pow-succ', zero-lt-suc, mul-comm, add-comm, le-antisymm}
 use native.Mathlib.Omega.{arith}
 use borrow.Author.Tests.{ltb-true, ltb-false, le-ltb, lt-ltb}
 use lib.IntN.{ℤ, pos, negsuc}
 use lib.Pow.{pow-pos}
 use lib.Dec.{T, ltb, eqb, eqb→eq}
-use lib.Ieee.{Float, nan, inf, fin, Format, binary64, up, down, neg, add, sub, mul, div, sum, round, units, odd, fits, unlike, low, prec, emax, size}
+use lib.Ieee.{Float, nan, inf, fin, Format, binary64, up, down, neg, add, sub, mul, div, sum, round, units, odd, fits, unlike, low, prec, emax}
 use lib.Ieee.Fits.{up-pos, down-pos, round-is, round-fits}
 use lib.Ieee.Exact.{HasValue, round-exact}
 use lib.Ieee.Scale.{finite}
@@ -205,6 +205,20 @@ unfolding abs neg
 abs-neg nan = refl
 abs-neg (inf s) = refl
 abs-neg (fin s m e) = refl
+
+pub abs-plus : (x : Float) → abs (plusZero x) ≡ abs x
+unfolding abs plusZero
+abs-plus nan = refl
+abs-plus (inf s) = refl
+abs-plus (fin s zero e) = refl
+abs-plus (fin s (suc m) e) = refl
+
+pub plus-finite : (x : Float) → T (finite x) → T (finite (plusZero x))
+unfolding plusZero
+plus-finite nan h = h
+plus-finite (inf s) h = h
+plus-finite (fin s zero e) h = tt
+plus-finite (fin s (suc m) e) h = tt
 
 pub plus-neg-plus : (x : Float) → plusZero (neg (plusZero x)) ≡ plusZero (neg x)
 unfolding plusZero neg

@@ -1,19 +1,16 @@
 -- The order of sizes, NaN above all and equal to any NaN: of any two one is as great as the other, and the order carries over.
 use mathlib.Core.Path.{_≡_, refl, sym, subst}
-use mathlib.Core.Bool.{Bool, true, false, not, _||_, true≢false, false≢true}
+use mathlib.Core.Bool.{true, false, not, true≢false, false≢true}
 use lib.Dec.{T}
 use lib.Ieee.{Float, nan, inf, fin, lt, le, eq, isNan}
 use lib.Ieee.Bits.{is-true}
+use Rattle.basics.proofs.Tests.{neither}
 use Rattle.floats.specs.Floats.{asGreat}
 use Rattle.floats.proofs.Order.{le-trans-float, not-below}
 
-first-false : (a b : Bool) → a || b ≡ false → a ≡ false
-first-false true b e = absurd (true≢false e)
-first-false false b e = refl
-
 -- of two that are no NaN
 le-total : (x y : Float) → T (not (isNan x)) → T (not (isNan y)) → le x y ≡ false → le y x ≡ true
-le-total x y p q h = is-true (le y x) (not-below x y p q (first-false (lt x y) (eq x y) (unfold le in h)))
+le-total x y p q h = is-true (le y x) (not-below x y p q (neither (lt x y) (eq x y) (unfold le in h) .0))
 
 pub great-total : (x y : Float) → asGreat x y ≡ false → asGreat y x ≡ true
 unfolding asGreat isNan

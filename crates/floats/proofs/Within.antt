@@ -14,7 +14,7 @@ use lib.Ieee.Order.{transfer}
 use lib.Ieee.Scale.{finite, round-same}
 use Rattle.floats.specs.Floats.{abs, fromInt, half}
 use Rattle.floats.proofs.Signs.{abs-neg, neg-neg, sum-like}
-use Rattle.floats.proofs.Order.{sub-times, le-trans-float, le-neg, sizes→le, add-mono}
+use Rattle.floats.proofs.Order.{sub-times, le-trans-float, le-neg, le→sizes, sizes→le, add-mono}
 use Rattle.floats.proofs.Whole.{half-exact}
 
 -- ---- a sum and a difference, by the fractions that the operands equal
@@ -79,7 +79,7 @@ finite-under (inf s) (inf t) p k = absurd p
 finite-under (inf s) (fin t n d) p k = absurd k
 finite-under (fin s m e) h p k = tt
 
-finite-no-nan : (x : Float) → T (finite x) → T (not (isNan x))
+pub finite-no-nan : (x : Float) → T (finite x) → T (not (isNan x))
 unfolding isNan
 finite-no-nan nan h = absurd h
 finite-no-nan (inf s) h = absurd h
@@ -99,10 +99,22 @@ size-bounds x h p k = (
       (rw neg-neg at (le-neg (neg x) (abs x) (rw abs-neg at (le-abs (neg x) (finite-no-nan (neg x) (finite-neg x p)))))),
 )
 
-value-finite : (x : Float) (s : Bool) (a c : ℕ) → HasValue x s a c → T (finite x)
+pub value-finite : (x : Float) (s : Bool) (a c : ℕ) → HasValue x s a c → T (finite x)
 value-finite nan s a c v = v
 value-finite (inf t) s a c v = v
 value-finite (fin t m e) s a c v = tt
+
+-- the order of two floats that are not below zero is that of the fractions they equal
+pub values-le : (x y : Float) (a c b d : ℕ) → HasValue x false a c → HasValue y false b d → T (le x y) → a * d ≤ b * c
+values-le nan y a c b d v w h = absurd v
+values-le (inf s) y a c b d v w h = absurd v
+values-le (fin true m e) y a c b d v w h = absurd (true≢false (v .0))
+values-le (fin false m e) nan a c b d v w h = absurd w
+values-le (fin false m e) (inf t) a c b d v w h = absurd w
+values-le (fin false m e) (fin true n g) a c b d v w h = absurd (true≢false (w .0))
+values-le (fin false m e) (fin false n g) a c b d v w h =
+    transfer a b c d (m * up e) (n * up g) (down e) (down g) (down-pos e) (down-pos g) (sym (v .1)) (sym (w .1))
+    (omega (arith, le→sizes false false m n e g h))
 
 -- ---- the mid and half the spread make the ask and the bid
 

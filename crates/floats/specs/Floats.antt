@@ -1,6 +1,7 @@
 -- Helpers on binary64: document 01, "Forms to change" (abs, max, clamp, total_cmp), "The fit" and "Domain". A float is the kit's `Float`, of lib.Ieee.
 use Prim.Native.Nat.{ℕ, zero, suc, _*_}
 use mathlib.Core.Bool.{Bool, true, false, cond, _||_}
+use lib.Dec.{eqb}
 use lib.IntN.{ℤ, pos}
 use lib.Ieee.{Float, nan, inf, fin, binary64, div, lt, le, isNan, ofInt, ofBits}
 use lib.Ieee as Ieee
@@ -64,6 +65,10 @@ plusZero (fin s (suc m) e) = fin s (suc m) e
 
 abbrev pub toBits : Float → ℕ
 toBits x = Ieee.toBits binary64 x
+
+-- minus zero, by its bits
+abbrev pub minusZero : Float → Bool
+minusZero x = eqb (toBits x) 0x8000_0000_0000_0000
 
 -- every NaN pattern is NaN
 abbrev pub fromBits : ℕ → Float

@@ -1,16 +1,16 @@
 -- The ways through the tests of the encoding.
-use Prim.Native.Nat.{ℕ, zero, suc, _+_, _*_, _-_, _/_, _%_, _≤_, _<_}
-use mathlib.Core.Path.{_≡_, sym, ap, subst, _∙_}
+use Prim.Native.Nat.{ℕ, _+_, _*_, _-_, _/_, _%_, _≤_, _<_}
+use mathlib.Core.Path.{_≡_, sym, ap, _∙_}
 use mathlib.Core.Bool.{Bool, true, false, _&&_, _||_}
 use mathlib.Core.List.{List}
-use mathlib.Core.Logic.{⊎-elim}
 use native.Mathlib.Nat.{add-zero}
 use native.Mathlib.Omega.{arith}
 use lib.Dec.{leb, eqb}
 use lib.ListN.{length, getD}
 use borrow.Author.Tests.{eq-eqb, ne-eqb, le-leb, lt-leb, leb-true, eqb-true}
 use Rattle.basics.specs.Lists.{allFrom}
-use Rattle.basics.proofs.Tests.{both, same-test, le-or-lt}
+use Rattle.basics.proofs.Tests.{both, same-test}
+use Rattle.mirrored.proofs.Walks.{all-at}
 use Rattle.history.specs.Replay.{wordIn, startAt, longAt, isCall, wellCoded}
 
 -- the first word of call k
@@ -54,15 +54,6 @@ module _ (room : ℕ) (w : List ℕ) (k : ℕ) where
           (same-test (leb (longAt w k) (room - startAt w k)) (leb (startAt w k + longAt w k) room)
           (λ e. le-leb (startAt w k + longAt w k) room (let l = leb-true (longAt w k) (room - startAt w k) e in omega arith))
           (λ e. le-leb (longAt w k) (room - startAt w k) (let l = leb-true (startAt w k + longAt w k) room e in omega arith)))
-
--- each of the tests holds
-all-at : (p : ℕ → Bool) (i n k : ℕ) → allFrom p i n ≡ true → i ≤ k → k < i + n → p k ≡ true
-all-at p i zero k e l h = absurd (omega arith)
-all-at p i (suc n) k e l h =
-    let b = both (p i) (allFrom p (suc i) n) e in
-    ⊎-elim (λ (g : k ≤ i). subst (λ (j : ℕ). p j ≡ true) (let z : i ≡ k = omega arith in z) (b .0))
-    (λ (g : i < k). all-at p (suc i) n k (b .1) (omega arith) (omega arith))
-    (le-or-lt k i)
 
 module _ (room answers : ℕ) (w : List ℕ) where
   pub coded-ragged : (length w % 6 ≡ 0 → ⊥) → false ≡ wellCoded room answers w

@@ -128,7 +128,7 @@ module _ (c : MicroPriceConfig) (v : Valid c) where
 
 -- ---- the count check
 
-first-all : (f : ℕ → Check) (i k : ℕ) → ((j : ℕ) → j < i + k → f j ≡ Fine) → firstFrom f i k ≡ Fine
+pub first-all : (f : ℕ → Check) (i k : ℕ) → ((j : ℕ) → j < i + k → f j ≡ Fine) → firstFrom f i k ≡ Fine
 first-all f i zero h = refl
 first-all f i (suc k) h = rw (h i (omega arith)) (first-all f (suc i) k (λ j b. h j (omega arith)))
 
@@ -157,7 +157,7 @@ module _ (N : ℕ) (mirror : ℕ → ℕ) (k : Counts) (b : Balanced N mirror k)
 
 -- ---- the operations on such a memory
 
-first-last : (k : Check) → firstOf k Fine ≡ k
+pub first-last : (k : Check) → firstOf k Fine ≡ k
 first-last Fine = refl
 first-last (Refused r) = refl
 

@@ -20,12 +20,13 @@ use Rattle.quotes.proofs.Known.{valid-known}
 use Rattle.quotes.proofs.Refusals.{if-fine, first-fine}
 use Rattle.tally.specs.Entries.{Tables, tables}
 use Rattle.tally.specs.Rules.{Memory}
+use Rattle.mirrored.specs.Mirrors.{checkMirrored}
 use Rattle.mirrored.specs.Lies.{tablesIn, Lies}
 use Rattle.calibrator.specs.Observe.{wrongLengths, roomFor, broken}
 use Rattle.calibrator.specs.declared.Previous.{Previous}
 use Rattle.calibrator.proofs.Room.{room-known, lengths-known}
 use Rattle.image.specs.Layout.{headerLength, cells, imageLength, header, configIn, previousIn, tablesFrom, memoryIn, headerIn, sameWords, laidOut}
-use Rattle.image.specs.Image.{checkMirrored, saveRefusal, tooShort, lentWrong, heldRefusal, restoreRefusal, Readable}
+use Rattle.image.specs.Image.{saveRefusal, tooShort, lentWrong, heldRefusal, restoreRefusal, Readable}
 use Rattle.image.proofs.Headers.{same-equal}
 
 -- ---- save

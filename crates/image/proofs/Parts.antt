@@ -8,7 +8,8 @@ use lib.IntN.{ℤ}
 use lib.ListN.{length, getD, length-append, length-map}
 use lib.Seq.{sets}
 use Rattle.words.specs.Words.{digits, bytesOf, twos}
-use Rattle.words.proofs.Laws.{sets-append, sets-whole, length-bytes}
+use Rattle.basics.proofs.Stores.{sets-append, sets-whole}
+use Rattle.words.proofs.Laws.{length-bytes}
 use Rattle.quotes.specs.Configuration.{states}
 use Rattle.quotes.specs.declared.MicroPriceConfig.{MicroPriceConfig}
 use Rattle.tally.specs.Entries.{Tables, tables}
@@ -17,7 +18,7 @@ use Rattle.calibrator.specs.declared.Counters.{Counters}
 use Rattle.calibrator.specs.declared.Previous.{Previous}
 use Rattle.calibrator.specs.declared.Previous.the-variants.{Nothing, Quoted}
 use Rattle.calibrator.specs.declared.Record.{Record}
-use Rattle.calibrator.proofs.Room.{Sized}
+use Rattle.calibrator.proofs.Room.{RightLengths}
 use Rattle.image.specs.Layout.{cells, imageLength, previousWords, header, image}
 
 pub squares : (n : ℕ) → n ≤ 256 → n * n ≤ 65536
@@ -64,7 +65,7 @@ header-is c l k t n C q en ec e =
     ∙ sym (append-assoc (previousWords l) (k .pairs ∷ k .«skipped_spread_pairs» ∷ k .«skipped_gap_pairs» ∷ k .«largest_move_half_ticks» ∷ []) (imageLength c ∷ []))))
 
 -- the four writes of an image
-pub image-is : (c : MicroPriceConfig) (r : Record) (s m : List ℕ) (t : List ℤ) (h o o₁ o₂ o₃ o₄ : List ℕ) → Sized (states c) (length s) (length m) (length t) → length o ≡ imageLength c → h ≡ header c (r .previous) (countsOf (r .counters) (tables s m t)) → (C : ℕ) → C ≡ cells c → o₁ ≡ sets o 0 (bytesOf h) → o₂ ≡ sets o₁ 160 (bytesOf s) → o₃ ≡ sets o₂ (160 + 8 * C) (bytesOf m) → o₄ ≡ sets o₃ (160 + 16 * C) (bytesOf (map twos t)) → o₄ ≡ image c (memory r s m t)
+pub image-is : (c : MicroPriceConfig) (r : Record) (s m : List ℕ) (t : List ℤ) (h o o₁ o₂ o₃ o₄ : List ℕ) → RightLengths (states c) (length s) (length m) (length t) → length o ≡ imageLength c → h ≡ header c (r .previous) (countsOf (r .counters) (tables s m t)) → (C : ℕ) → C ≡ cells c → o₁ ≡ sets o 0 (bytesOf h) → o₂ ≡ sets o₁ 160 (bytesOf s) → o₃ ≡ sets o₂ (160 + 8 * C) (bytesOf m) → o₄ ≡ sets o₃ (160 + 16 * C) (bytesOf (map twos t)) → o₄ ≡ image c (memory r s m t)
 image-is c r s m t h o o₁ o₂ o₃ o₄ z l eh C ec e₁ e₂ f₃ f₄ =
     let e₃ : o₃ ≡ sets o₂ (160 + 8 * cells c) (bytesOf m) = rw ec at f₃ in
     let e₄ : o₄ ≡ sets o₃ (160 + 16 * cells c) (bytesOf (map twos t)) = rw ec at f₄ in

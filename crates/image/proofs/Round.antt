@@ -29,6 +29,7 @@ use Rattle.tally.specs.Entries.{Tables, tables, overTotal}
 use Rattle.tally.specs.Events.{Counts}
 use Rattle.tally.specs.Limits.{overCounter}
 use Rattle.tally.specs.Rules.{Memory}
+use Rattle.mirrored.specs.Mirrors.{checkMirrored}
 use Rattle.mirrored.specs.Mirrors.{storedOver, checkState, isTwice, checkCounts}
 use Rattle.calibrator.specs.Observe.{roomFor, broken}
 use Rattle.calibrator.specs.Record.{countsOf, memory}
@@ -36,9 +37,9 @@ use Rattle.calibrator.specs.declared.Counters.{Counters}
 use Rattle.calibrator.specs.declared.Previous.{Previous}
 use Rattle.calibrator.specs.declared.Previous.the-variants.{Nothing, Quoted}
 use Rattle.calibrator.specs.declared.Record.{Record}
-use Rattle.calibrator.proofs.Room.{Sized, lengths-known}
+use Rattle.calibrator.proofs.Room.{RightLengths, lengths-known}
 use Rattle.image.specs.Layout.{cells, imageLength, header, body, image, word, configIn, previousIn, countersIn, tablesFrom, memoryIn, headerIn, sameWords, laidOut}
-use Rattle.image.specs.Image.{checkMirrored, saveRefusal, endSave, savedUnless, saved, tooShort, lentWrong, heldRefusal, restoreRefusal, endRestore, takenUnless, restored}
+use Rattle.image.specs.Image.{saveRefusal, endSave, savedUnless, saved, tooShort, lentWrong, heldRefusal, restoreRefusal, endRestore, takenUnless, restored}
 use Rattle.image.specs.declared.Restored.the-variants.{Config}
 use Rattle.image.proofs.Parts.{length-header}
 use Rattle.image.proofs.Judged.{save-known, restore-known}
@@ -116,7 +117,7 @@ module _ (c : MicroPriceConfig) (l : Previous) (k : Counters) (s m : List ℕ) (
   abbrev b : List ℕ
   b = image c held
 
-  module _ (v : Valid c) (z : Sized (states c) (length s) (length m) (length t)) (fits : AllWords ws) (small : any overTotal t ≡ false) where
+  module _ (v : Valid c) (z : RightLengths (states c) (length s) (length m) (length t)) (fits : AllWords ws) (small : any overTotal t ≡ false) where
     abbrev C : ℕ
     C = cells c
 

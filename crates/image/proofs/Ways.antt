@@ -20,8 +20,9 @@ use Rattle.calibrator.specs.Observe.{broken}
 use Rattle.calibrator.specs.Record.{countsOf, memory}
 use Rattle.calibrator.specs.declared.Previous.{Previous}
 use Rattle.calibrator.specs.declared.Record.{Record}
+use Rattle.mirrored.specs.Mirrors.{checkMirrored}
 use Rattle.image.specs.Layout.{headerLength, cells, configIn, recordIn, tablesFrom, memoryIn, laidOut}
-use Rattle.image.specs.Image.{checkMirrored, tooShort, lentWrong, heldRefusal, restoreRefusal, endRestore, restored, Readable}
+use Rattle.image.specs.Image.{tooShort, lentWrong, heldRefusal, restoreRefusal, endRestore, restored, Readable}
 use Rattle.image.specs.declared.Restored.the-variants.{Config}
 
 module _ (b : List ℕ) (t : Tables) where

@@ -7,23 +7,17 @@ use lib.Dec.{ltb, eqb}
 use lib.ListN.{length}
 use Rattle.quotes.specs.Configuration.{states, checkConfig}
 use Rattle.quotes.specs.Refusals.{refuseIf, firstOf}
-use Rattle.quotes.specs.States.{mirrorOf}
 use Rattle.quotes.specs.declared.Check.{Check}
 use Rattle.quotes.specs.declared.Check.the-variants as Check
 use Rattle.quotes.specs.declared.MicroPriceConfig.{MicroPriceConfig}
 use Rattle.tally.specs.Entries.{Tables}
-use Rattle.tally.specs.Events.{Counts}
 use Rattle.tally.specs.Rules.{Memory}
-use Rattle.mirrored.specs.Mirrors.{checkCounts}
+use Rattle.mirrored.specs.Mirrors.{checkMirrored}
 use Rattle.calibrator.specs.Observe.{wrongLengths, roomFor, broken}
 use Rattle.calibrator.specs.declared.Previous.{Previous}
 use Rattle.image.specs.Layout.{headerLength, cells, imageLength, image, configIn, previousIn, memoryIn, laidOut}
 use Rattle.image.specs.declared.Restored.{Restored}
 use Rattle.image.specs.declared.Restored.the-variants.{Config, Refused}
-
--- 6, 9, 10, 11
-abbrev pub checkMirrored : MicroPriceConfig → Counts → Check
-checkMirrored c k = checkCounts (states c) (mirrorOf (c .«imbalance_buckets»)) k
 
 -- ---- save
 

@@ -1,13 +1,14 @@
 -- Exact fractions are a field with a decidable zero, so elimination of fractions solves its equations.
 use mathlib.Core.Path.{_≡_, refl, sym, ap, _∙_, subst}
 use mathlib.Core.Logic.{_≢_, _↔_}
-use mathlib.Core.Bool.{Bool, true, false, not, _&&_, cond, Bool-set, false≢true}
+use mathlib.Core.Bool.{Bool, true, false, not, _&&_, cond, Bool-set}
 use mathlib.Core.HLevel.{Π-prop}
 use mathlib.Core.Quot.{Quot·mk, Quot·sound, Quot-set, Quot·lift, ind}
 use Prim.Native.Nat.{ℕ, zero, suc, _+_, _*_, _-_, _<_, _≤_}
 use native.Mathlib.Omega.{arith}
 use lib.Dec.{eqb, leb}
 use borrow.Author.Tests.{eqb-true, eqb-false, leb-true, leb-false}
+use Rattle.basics.proofs.Tests.{both}
 use Rattle.linear.specs.Arithmetic.{Arith}
 use Rattle.linear.specs.Elimination.{solved, matrixOf, gaussJordan, columnsSolved, columnSolved, pivotRow, swapped, reduced, cleared}
 use Rattle.linear.specs.Exact.{IsExact, unit, Solves}
@@ -19,17 +20,17 @@ frac x = Quot·mk x
 
 -- a function of two ratios that alike ratios do not change, of two fractions
 module _ {C : Type 0} (set : IsSet C) (f : Ratio → Ratio → C) (left : (x x′ y : Ratio) → Alike x x′ → f x y ≡ f x′ y) (right : (x y y′ : Ratio) → Alike y y′ → f x y ≡ f x y′) where
-  abbrev pub both : Fraction → Fraction → C
-  both x y =
+  abbrev pub lifted : Fraction → Fraction → C
+  lifted x y =
       Quot·lift {r = Alike} set (λ a. Quot·lift {r = Alike} set (λ b. f a b) (λ b b′ h. right a b b′ h) y)
       (λ a a′ h. ind {r = Alike} {β = λ y. Quot·lift {r = Alike} set (λ b. f a b) (λ b b′ h. right a b b′ h) y ≡ Quot·lift {r = Alike} set (λ b. f a′ b) (λ b b′ h. right a′ b b′ h) y} (λ y. set _ _) (λ b. left a a′ b h) y)
       x
 
 abbrev pub _⊞_ : Fraction → Fraction → Fraction
-_⊞_ = both Quot-set (λ x y. frac (plus x y)) (λ x x′ y h. Quot·sound (plus-left x x′ y h)) (λ x y y′ h. Quot·sound (plus-right x y y′ h))
+_⊞_ = lifted Quot-set (λ x y. frac (plus x y)) (λ x x′ y h. Quot·sound (plus-left x x′ y h)) (λ x y y′ h. Quot·sound (plus-right x y y′ h))
 
 abbrev pub _⊠_ : Fraction → Fraction → Fraction
-_⊠_ = both Quot-set (λ x y. frac (times x y)) (λ x x′ y h. Quot·sound (times-left x x′ y h)) (λ x y y′ h. Quot·sound (times-right x y y′ h))
+_⊠_ = lifted Quot-set (λ x y. frac (times x y)) (λ x x′ y h. Quot·sound (times-left x x′ y h)) (λ x y y′ h. Quot·sound (times-right x y y′ h))
 
 abbrev pub minus : Fraction → Fraction
 minus = Quot·lift Quot-set (λ x. frac (less x)) (λ x y h. Quot·sound (less-alike x y h))
@@ -41,7 +42,7 @@ abbrev pub sizeOf : Fraction → Fraction
 sizeOf = Quot·lift Quot-set (λ x. frac (sizeRatio x)) (λ x y h. Quot·sound (size-alike x y h))
 
 abbrev pub leq : Fraction → Fraction → Bool
-leq = both Bool-set leRatio le-left le-right
+leq = lifted Bool-set leRatio le-left le-right
 
 -- 1e-12
 abbrev tolerance : Fraction
@@ -112,17 +113,13 @@ scaled u m d v n e k hv hn he = rw (hv, hn, he) (omega arith)
 pub ⊠-⊞ : (x y z : Fraction) → x ⊠ (y ⊞ z) ≡ x ⊠ y ⊞ x ⊠ z
 ⊠-⊞ = eq3 (λ x y z. x ⊠ (y ⊞ z)) (λ x y z. x ⊠ y ⊞ x ⊠ z) (λ a b c. alike (times a (plus b c)) (plus (times a b) (times a c)) (scaled _ _ _ _ _ _ (a .over) (omega arith) (omega arith) (omega arith)))
 
-two-true : (a b : Bool) → a && b ≡ true → (a ≡ true) × (b ≡ true)
-two-true true b e = (refl, e)
-two-true false b e = absurd (false≢true e)
-
 ordered : (x y : Ratio) → leRatio x y ≡ true → x .up * y .over + y .down * x .over ≤ y .up * x .over + x .down * y .over
 ordered x y e = leb-true _ _ e
 
 pub zero-is : (x : Fraction) → exact .isZero x ≡ true → x ≡ frac (whole 0)
 zero-is =
     ind {β = λ x. exact .isZero x ≡ true → x ≡ frac (whole 0)} (λ x. Π-prop (λ h. Quot-set x (frac (whole 0))))
-    (λ a h. let t = two-true (leRatio a (whole 0)) (leRatio (whole 0) a) h in alike a (whole 0) (omega (arith, ordered a (whole 0) (t .0), ordered (whole 0) a (t .1))))
+    (λ a h. let t = both (leRatio a (whole 0)) (leRatio (whole 0) a) h in alike a (whole 0) (omega (arith, ordered a (whole 0) (t .0), ordered (whole 0) a (t .1))))
 
 -- one number more than the other by a, not 0
 flip-up : (m a d : ℕ) → 0 < a → ((m + a) * (d * (m + a)) + m * (d * m)) * 1 + 0 * (d * square (gap (m + a) m)) ≡ 1 * (d * square (gap (m + a) m)) + ((m + a) * (d * m) + m * (d * (m + a))) * 1

@@ -4,7 +4,6 @@ use mathlib.Core.Path.{_≡_, refl, _∙_}
 use mathlib.Core.List.{List}
 use mathlib.Core.Logic.{_≢_, _⊎_, inl, inr, ⊎-elim}
 use mathlib.Core.Bool.{Bool, true, false}
-use native.Mathlib.Nat.{mul-le-mul-right, suc-mul}
 use native.Mathlib.Omega.{arith}
 use borrow.Author.Count.{below-more}
 use borrow.Author.Tests.{ltb-true, ltb-false}
@@ -12,14 +11,11 @@ use lib.Dec.{ltb}
 use lib.ListN.{length, set, length-set}
 use lib.Seq.{getD-set-same, getD-set-other}
 use lib.Ieee.{Float, nan}
+use Rattle.basics.proofs.Tests.{row-in}
 use Rattle.linear.specs.Scratch.{at, from, Outside}
 use Rattle.linear.specs.Loops.{Filled, Swapped}
 
 -- ---- rows
-
--- row r of n rows of w lies within
-pub row-in : (r n w : ℕ) → r < n → r * w + w ≤ n * w
-row-in r n w h = rw suc-mul at (mul-le-mul-right w h)
 
 -- two rows are apart
 pub rows-apart : (w r s : ℕ) → r ≢ s → (r * w + w ≤ s * w) ⊎ (s * w + w ≤ r * w)

@@ -6,12 +6,13 @@ use mathlib.Core.Logic.{inl}
 use native.Mathlib.Omega.{arith}
 use lib.ListN.{length, set}
 use lib.Ieee.{Float}
+use Rattle.basics.proofs.Tests.{row-in}
 use Rattle.linear.specs.Arithmetic.{rounded}
 use Rattle.linear.specs.Series.{dot, times}
 use Rattle.linear.specs.Scratch.{at, from, width, nextAt, solvedB}
 use Rattle.linear.specs.Loops.{FourDots, ProductTo}
 use Rattle.linear.specs.declared.inner.Four.{Four}
-use Rattle.linear.proofs.Parts.{row-in, filled-more, filled-four}
+use Rattle.linear.proofs.Parts.{filled-more, filled-four}
 use Rattle.linear.proofs.Vectors.{dot-same}
 
 module _ (n v r : ℕ) (before : v + n ≤ nextAt n) (l m : List Float) (p : ProductTo n v r l m) where

@@ -10,6 +10,7 @@ use borrow.Author.Tests.{eq-eqb, ne-eqb}
 use lib.Dec.{eqb}
 use lib.ListN.{length}
 use lib.Ieee.{Float, binary64, add, lt}
+use Rattle.basics.proofs.Tests.{row-in}
 use Rattle.floats.specs.Floats.{tiny, clamp, isInfinite}
 use Rattle.linear.specs.Arithmetic.{rounded}
 use Rattle.linear.specs.Series.{Series, converged, notConverged, sumOf, termOf, times, plus, largest, summed, sumSeries, shareAfter, fallbackWithinMoves}
@@ -17,7 +18,6 @@ use Rattle.linear.specs.Scratch.{at, from, rowsOf, Outside, width, sumAt
 use Rattle.linear.specs.Loops.{Filled, ProductTo, Column, TermAdded}
 use Rattle.linear.specs.declared.Sum.{Sum}
 use Rattle.linear.specs.declared.Sum.the-variants.{Converged, NotConverged}
-use Rattle.linear.proofs.Parts.{row-in}
 use Rattle.linear.proofs.Vectors.{SameVector, SameSeries, dot-same, largest-same, series-same, share-same}
 
 -- ---- what can be read while a part is written

@@ -10,6 +10,7 @@ use native.Mathlib.Omega.{arith}
 use borrow.Author.Tests.{eqb-true, eqb-false}
 use lib.Dec.{eqb}
 use lib.Ieee.{Float, binary64, sub, mul, div, eq}
+use Rattle.basics.proofs.Tests.{row-in}
 use Rattle.floats.specs.Floats.{posZero}
 use Rattle.floats.proofs.Signs.{Three, less, same, more, three}
 use Rattle.linear.specs.Arithmetic.{rounded}
@@ -17,7 +18,7 @@ use Rattle.linear.specs.Elimination.{swapped, normalized, cleared, reduc
 use Rattle.linear.specs.Scratch.{from, rowsOf, Becomes}
 use Rattle.linear.specs.Loops.{Filled, Swapped, ClearedRows}
 use Rattle.linear.proofs.Steps.{reduced-own, reduced-other}
-use Rattle.linear.proofs.Parts.{row-in, outside-row}
+use Rattle.linear.proofs.Parts.{outside-row}
 
 -- ---- one row cleared
 

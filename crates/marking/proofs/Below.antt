@@ -9,17 +9,9 @@ use native.Mathlib.Numerals.{add-one}
 use native.Mathlib.Omega.{arith}
 use lib.ListN.{length, getD}
 use Rattle.basics.specs.Lists.{bit, count, any, tab, sum}
-use Rattle.basics.proofs.Tests.{fails}
+use Rattle.basics.proofs.Tests.{either, fails}
 use Rattle.basics.proofs.Lists.{tab-ext, tab-getD}
 use Rattle.marking.specs.Below.{sumTo, someTo, countTo}
-
-pub yes-or-no : (b : Bool) → (b ≡ true) ⊎ (b ≡ false)
-yes-or-no true = inl refl
-yes-or-no false = inr refl
-
-pub either : (a b : Bool) → a || b ≡ true → (a ≡ true) ⊎ (b ≡ true)
-either true b h = inl refl
-either false b h = inr h
 
 -- ---- sums
 
@@ -79,7 +71,7 @@ any-snoc : (p : ℕ → Bool) (n : ℕ) (f : ℕ → ℕ) → any p (tab (suc n)
 any-snoc p zero f = or-false (p (f 0))
 any-snoc p (suc n) f = ap (λ (b : Bool). p (f 0) || b) (any-snoc p n (λ k. f (suc k))) ∙ sym (or-assoc (p (f 0)) (any p (tab n (λ k. f (suc k)))) (p (f (suc n))))
 
-some-step : (n : ℕ) (p : ℕ → Bool) → someTo (suc n) p ≡ someTo n p || p n
+pub some-step : (n : ℕ) (p : ℕ → Bool) → someTo (suc n) p ≡ someTo n p || p n
 unfolding someTo
 some-step n p = any-snoc p n (λ k. k)
 

@@ -1,6 +1,6 @@
 -- Marking is a function. Where there is a path, there is one of at most as many steps as there are states: so it is decided whether there is one, and each state has one mark.
 use mathlib.Core.Path.{_≡_, refl, sym, _∙_}
-use mathlib.Core.Bool.{Bool, true, false, not, _&&_, or-true, false≢true}
+use mathlib.Core.Bool.{Bool, true, false, not, _&&_, cond, or-true, false≢true}
 use mathlib.Core.List.{List}
 use mathlib.Core.Logic.{_⊎_, inl, inr, ⊎-elim}
 use Prim.Native.Nat.{ℕ, zero, suc, _<_}
@@ -8,24 +8,27 @@ use native.Mathlib.Omega.{arith}
 use borrow.Author.Tests.{not-true, ltb-true, lt-ltb, leb-true, leb-false, le-leb, lt-leb}
 use lib.Dec.{ltb}
 use lib.ListN.{getD}
-use Rattle.basics.proofs.Tests.{both, fails}
+use Rattle.basics.proofs.Tests.{both, either, yes-or-no, fails}
+use Rattle.model.specs.Status.{statusNumber}
+use Rattle.model.specs.declared.StateStatus.{StateStatus}
+use Rattle.model.specs.declared.StateStatus.the-variants as Status
 use Rattle.marking.specs.Below.{someTo, countTo}
-use Rattle.marking.specs.Marks.{Cells, Rare, Kept, Reaches, here, step, Mark, calibrated, rare, noPriceMove, markNumber, Says, Marked, isKept, reachesIn, markOf}
-use Rattle.marking.proofs.Below.{yes-or-no, either, some-at, some-found, some-not, count-less, count-most}
+use Rattle.marking.specs.Marks.{Cells, observations, Rare, NotRare, Reaches, here, step, Says, Marked, notRare, reachesIn, markOf}
+use Rattle.marking.proofs.Below.{some-at, some-found, some-not, count-less, count-most}
 
 module _ (C : Cells) where
   -- a path whose first step goes on to one of at most k
   abbrev onward : ℕ → ℕ → Bool
-  onward k i = isKept C i && someTo (C .states) (λ j. ltb 0 (C .stay i j) && reachesIn C k j)
+  onward k i = notRare C i && someTo (C .states) (λ j. ltb 0 (C .stay i j) && reachesIn C k j)
 
-  onward-found : (k i : ℕ) → onward k i ≡ true → (j : ℕ) × Kept C i × (j < C .states) × (0 < C .stay i j) × (reachesIn C k j ≡ true)
+  onward-found : (k i : ℕ) → onward k i ≡ true → (j : ℕ) × NotRare C i × (j < C .states) × (0 < C .stay i j) × (reachesIn C k j ≡ true)
   onward-found k i h =
-      let a = both (isKept C i) (someTo (C .states) (λ j. ltb 0 (C .stay i j) && reachesIn C k j)) h in
+      let a = both (notRare C i) (someTo (C .states) (λ j. ltb 0 (C .stay i j) && reachesIn C k j)) h in
       let w = some-found (C .states) (λ j. ltb 0 (C .stay i j) && reachesIn C k j) (a .1) in
       let b = both (ltb 0 (C .stay i (w .0))) (reachesIn C k (w .0)) (w .2) in
       (w .0, leb-true _ _ (a .0), w .1, ltb-true _ _ (b .0), b .1)
 
-  onward-at : (k i j : ℕ) → Kept C i → j < C .states → 0 < C .stay i j → reachesIn C k j ≡ true → onward k i ≡ true
+  onward-at : (k i j : ℕ) → NotRare C i → j < C .states → 0 < C .stay i j → reachesIn C k j ≡ true → onward k i ≡ true
   onward-at k i j a l m t =
       let u : ltb 0 (C .stay i j) && reachesIn C k j ≡ true = rw (lt-ltb _ _ m, t) in
       rw (le-leb _ _ a, some-at (C .states) (λ j. ltb 0 (C .stay i j) && reachesIn C k j) j l u)
@@ -45,11 +48,11 @@ module _ (C : Cells) where
   no-steps : (i : ℕ) → reachesIn C 0 i ≡ true → Reaches C i
   unfolding reachesIn
   no-steps i h =
-      let a = both (isKept C i) (someTo (C .states) (λ j. ltb 0 (C .moved i j))) h in
+      let a = both (notRare C i) (someTo (C .states) (λ j. ltb 0 (C .moved i j))) h in
       let w = some-found (C .states) (λ j. ltb 0 (C .moved i j)) (a .1) in
       here (w .0) (leb-true _ _ (a .0)) (w .1) (ltb-true _ _ (w .2))
 
-  moves : (i j : ℕ) → Kept C i → j < C .states → 0 < C .moved i j → reachesIn C 0 i ≡ true
+  moves : (i j : ℕ) → NotRare C i → j < C .states → 0 < C .moved i j → reachesIn C 0 i ≡ true
   unfolding reachesIn
   moves i j a l m = rw (le-leb _ _ a, some-at (C .states) (λ j. ltb 0 (C .moved i j)) j l (lt-ltb _ _ m))
 
@@ -120,38 +123,39 @@ module _ (C : Cells) where
 
   -- ---- each state has one mark
 
-  pub is-rare : (i : ℕ) → Rare C i → markOf C i ≡ rare
+  pub is-rare : (i : ℕ) → Rare C i → markOf C i ≡ Status.Rare
   unfolding markOf
   is-rare i h = rw (lt-leb _ _ h)
 
-  pub is-calibrated : (i : ℕ) → i < C .states → Kept C i → Reaches C i → markOf C i ≡ calibrated
+  pub is-calibrated : (i : ℕ) → i < C .states → NotRare C i → Reaches C i → markOf C i ≡ Status.Calibrated
   unfolding markOf
-  is-calibrated i l h r = rw (le-leb _ _ h, path-in i l r)
+  is-calibrated i l h r = λ t. cond (le-leb (C .least) (observations C i) h t) (cond (path-in i l r t) Status.Calibrated Status.NoPriceMove) Status.Rare
 
-  pub is-none : (i : ℕ) → i < C .states → Kept C i → (Reaches C i → ⊥) → markOf C i ≡ noPriceMove
+  pub is-none : (i : ℕ) → i < C .states → NotRare C i → (Reaches C i → ⊥) → markOf C i ≡ Status.NoPriceMove
   unfolding markOf
-  is-none i l h n = rw (le-leb _ _ h, none)
+  is-none i l h n = λ t. cond (le-leb (C .least) (observations C i) h t) (cond (none t) Status.Calibrated Status.NoPriceMove) Status.Rare
     where
       none : reachesIn C (C .states) i ≡ false
       none = fails (reachesIn C (C .states) i) (λ t. n (path-of (C .states) i t))
 
   pub mark-says : (i : ℕ) → i < C .states → Says C i (markOf C i)
   mark-says i l =
-      elim (yes-or-no (isKept C i)) [
+      elim (yes-or-no (notRare C i)) [
         | inr f ↦ let r = leb-false _ _ f in rw (is-rare i r) r
         | inl t ↦
-            let k : Kept C i = leb-true _ _ t in
+            let k : NotRare C i = leb-true _ _ t in
             elim (decided i l) [
               | inl p ↦ rw (is-calibrated i l k p) (k, p)
               | inr n ↦ rw (is-none i l k n) (k, n)
             ]
       ]
 
-  pub mark-only : (i : ℕ) → i < C .states → (m : Mark) → Says C i m → markOf C i ≡ m
-  mark-only i l calibrated s = is-calibrated i l (s .0) (s .1)
-  mark-only i l rare s = is-rare i s
-  mark-only i l noPriceMove s = is-none i l (s .0) (s .1)
+  pub mark-only : (i : ℕ) → i < C .states → (m : StateStatus) → Says C i m → markOf C i ≡ m
+  mark-only i l Status.Calibrated s = is-calibrated i l (s .0) (s .1)
+  mark-only i l Status.Rare s = is-rare i s
+  mark-only i l Status.NoPriceMove s = is-none i l (s .0) (s .1)
+  mark-only i l Status.OutsideQuotes s = absurd s
 
   -- what marking leaves, by the function
-  pub marked-is : (before after : List ℕ) → Marked C before after → (i : ℕ) → i < C .states → getD after i 0 ≡ markNumber (markOf C i)
+  pub marked-is : (before after : List ℕ) → Marked C before after → (i : ℕ) → i < C .states → getD after i 0 ≡ statusNumber (markOf C i)
   marked-is before after M i l = let w = M .marks i l in rw (mark-only i l (w .0) (w .1)) (w .2)

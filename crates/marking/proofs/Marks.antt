@@ -9,10 +9,13 @@ use native.Mathlib.Decide.{ℕ-discrete}
 use borrow.Author.Tests.{lt-ltb, ltb-true, ltb-false, eqb-true, eq-eqb}
 use lib.Dec.{ltb}
 use lib.ListN.{length, getD}
-use Rattle.basics.proofs.Tests.{both}
-use Rattle.marking.specs.Marks.{Cells, cellOf, cellsOf, observations, Rare, Kept, Reaches, here, step, Mark, calibrated, rare, noPriceMove, markNumber, Says, Marked}
+use Rattle.basics.proofs.Tests.{both, yes-or-no}
+use Rattle.model.specs.Status.{statusNumber}
+use Rattle.model.specs.declared.StateStatus.{StateStatus}
+use Rattle.model.specs.declared.StateStatus.the-variants as Status
+use Rattle.marking.specs.Marks.{Cells, cellOf, cellsOf, observations, Rare, NotRare, Reaches, here, step, Says, Marked}
 use Rattle.marking.specs.Steps.{hasPositive, leadsTo, firstMark, FirstMarks, Freed, Led, none, more, Closed}
-use Rattle.marking.proofs.Below.{yes-or-no, some-found, some-not}
+use Rattle.marking.proofs.Below.{some-found, some-not}
 use Rattle.marking.proofs.Turns.{freed-here, freed-other, led-length, led-elsewhere}
 
 module _ (N least : ℕ) (stay moved : List ℕ) where
@@ -22,8 +25,8 @@ module _ (N least : ℕ) (stay moved : List ℕ) where
   -- what a mark says while states are still freed
   data So (m : List ℕ) (i : ℕ) : Type 0 where
     so-rare : Rare C i → getD m i 0 ≡ 1 → So m i
-    so-path : Kept C i → getD m i 0 ≡ 0 → Reaches C i → So m i
-    so-none : Kept C i → getD m i 0 ≡ 2 → hasPositive N moved i ≡ false → So m i
+    so-path : NotRare C i → getD m i 0 ≡ 0 → Reaches C i → So m i
+    so-none : NotRare C i → getD m i 0 ≡ 2 → hasPositive N moved i ≡ false → So m i
 
   abbrev AllSo : List ℕ → Type 0
   AllSo m = (i : ℕ) → i < N → So m i
@@ -51,7 +54,7 @@ module _ (N least : ℕ) (stay moved : List ℕ) where
   reached m i e (so-path a b r) = r
   reached m i e (so-none a b r) = absurd (omega arith)
 
-  waits : (m : List ℕ) (i : ℕ) → getD m i 0 ≡ 2 → So m i → Kept C i
+  waits : (m : List ℕ) (i : ℕ) → getD m i 0 ≡ 2 → So m i → NotRare C i
   waits m i e (so-rare a b) = absurd (omega arith)
   waits m i e (so-path a b r) = a
   waits m i e (so-none a b r) = a
@@ -103,7 +106,7 @@ module _ (N least : ℕ) (stay moved : List ℕ) where
       s : AllSo m
       s = so-led l m r q (λ i h. so-first l i (f .marks i h))
 
-      go : (i : ℕ) → i < N → So m i → (k : Mark) × Says C i k × (getD m i 0 ≡ markNumber k)
-      go i h (so-rare a e) = (rare, a, e)
-      go i h (so-path a e p) = (calibrated, (a, p), e)
-      go i h (so-none a e n) = (noPriceMove, (a, λ p. let z = so-closed m c s i h p in omega arith), e)
+      go : (i : ℕ) → i < N → So m i → (k : StateStatus) × Says C i k × (getD m i 0 ≡ statusNumber k)
+      go i h (so-rare a e) = (Status.Rare, a, e)
+      go i h (so-path a e p) = (Status.Calibrated, (a, p), e)
+      go i h (so-none a e n) = (Status.NoPriceMove, (a, λ p. let z = so-closed m c s i h p in omega arith), e)

@@ -7,8 +7,10 @@ use lib.Dec.{eqb}
 use Rattle.basics.specs.Lists.{tab, sum}
 use Rattle.basics.proofs.Tests.{eqb-same, same-test}
 use Rattle.basics.proofs.Lists.{sum-tab-add, sum-tab-zero, sum-tab-one}
+use Rattle.model.specs.declared.StateStatus.{StateStatus}
+use Rattle.model.specs.declared.StateStatus.the-variants as Status
 use Rattle.marking.specs.Below.{sumTo}
-use Rattle.marking.specs.Marks.{Cells, observations, Kept, Reaches, here, step, Mark, calibrated, rare, noPriceMove, Says, markOf}
+use Rattle.marking.specs.Marks.{Cells, observations, NotRare, Reaches, here, step, Says, markOf}
 use Rattle.marking.specs.Mirror.{Mirrored}
 use Rattle.marking.proofs.Below.{sum-same}
 use Rattle.marking.proofs.Decided.{mark-says, mark-only}
@@ -50,20 +52,21 @@ module _ (C : Cells) (mirror : ℕ → ℕ) (M : Mirrored C mirror) where
       let b = sym (sum-mirrored (C .moved (mirror i))) ∙ sum-same (C .states) (λ j. C .moved (mirror i) (mirror j)) (C .moved i) (λ j g. M .moved-mirrored i j h g) in
       rw (a, b)
 
-  kept-mirrored : (i : ℕ) → i < C .states → Kept C i → Kept C (mirror i)
-  kept-mirrored i h k = rw (observations-mirrored i h) k
+  not-rare-mirrored : (i : ℕ) → i < C .states → NotRare C i → NotRare C (mirror i)
+  not-rare-mirrored i h k = rw (observations-mirrored i h) k
 
   pub path-mirrored : (i : ℕ) → i < C .states → Reaches C i → Reaches C (mirror i)
-  path-mirrored i h (here j k l p) = here (mirror j) (kept-mirrored i h k) (M .mirror-below j l) (rw (M .moved-mirrored i j h l) p)
-  path-mirrored i h (step j k l p q) = step (mirror j) (kept-mirrored i h k) (M .mirror-below j l) (rw (M .stay-mirrored i j h l) p) (path-mirrored j l q)
+  path-mirrored i h (here j k l p) = here (mirror j) (not-rare-mirrored i h k) (M .mirror-below j l) (rw (M .moved-mirrored i j h l) p)
+  path-mirrored i h (step j k l p q) = step (mirror j) (not-rare-mirrored i h k) (M .mirror-below j l) (rw (M .stay-mirrored i j h l) p) (path-mirrored j l q)
 
   path-back : (i : ℕ) → i < C .states → Reaches C (mirror i) → Reaches C i
   path-back i h r = rw (M .mirror-twice i h) at (path-mirrored (mirror i) (M .mirror-below i h) r)
 
-  says-mirrored : (i : ℕ) → i < C .states → (m : Mark) → Says C i m → Says C (mirror i) m
-  says-mirrored i h calibrated s = (kept-mirrored i h (s .0), path-mirrored i h (s .1))
-  says-mirrored i h rare s = rw (observations-mirrored i h) s
-  says-mirrored i h noPriceMove s = (kept-mirrored i h (s .0), λ r. s .1 (path-back i h r))
+  says-mirrored : (i : ℕ) → i < C .states → (m : StateStatus) → Says C i m → Says C (mirror i) m
+  says-mirrored i h Status.Calibrated s = (not-rare-mirrored i h (s .0), path-mirrored i h (s .1))
+  says-mirrored i h Status.Rare s = rw (observations-mirrored i h) s
+  says-mirrored i h Status.NoPriceMove s = (not-rare-mirrored i h (s .0), λ r. s .1 (path-back i h r))
+  says-mirrored i h Status.OutsideQuotes s = s
 
   pub mark-mirrored : (i : ℕ) → i < C .states → markOf C (mirror i) ≡ markOf C i
   mark-mirrored i h = mark-only C (mirror i) (M .mirror-below i h) (markOf C i) (says-mirrored i h (markOf C i) (mark-says C i h))

@@ -11,8 +11,9 @@ use borrow.Author.Count.{below-more}
 use lib.Dec.{eqb}
 use lib.ListN.{length, getD, length-set}
 use lib.Seq.{getD-set-same, getD-set-other}
+use Rattle.basics.proofs.Tests.{yes-or-no}
 use Rattle.marking.specs.Steps.{leadsOut, waiting, Freed, Left, Led, none, more, Turned}
-use Rattle.marking.proofs.Below.{yes-or-no, count-less}
+use Rattle.marking.proofs.Below.{count-less}
 
 -- ---- one state is freed
 

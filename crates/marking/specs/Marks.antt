@@ -6,6 +6,9 @@ use mathlib.Core.List.{List}
 use lib.Dec.{ltb, leb}
 use lib.ListN.{length, getD}
 use Rattle.basics.specs.Lists.{sum}
+use Rattle.model.specs.Status.{statusNumber}
+use Rattle.model.specs.declared.StateStatus.{StateStatus}
+use Rattle.model.specs.declared.StateStatus.the-variants as Status
 use Rattle.marking.specs.Below.{sumTo, someTo}
 
 -- the cells of stay and moved by row and column, and the least observations
@@ -35,48 +38,37 @@ observations C i = sumTo (C .states) (C .stay i) + sumTo (C .states) (C .moved i
 abbrev pub Rare : Cells → ℕ → Type 0
 Rare C i = observations C i < C .least
 
--- not Rare
-abbrev pub Kept : Cells → ℕ → Type 0
-Kept C i = C .least ≤ observations C i
+abbrev pub NotRare : Cells → ℕ → Type 0
+NotRare C i = C .least ≤ observations C i
 
 -- a path of positive stay cells, or of zero steps, from i to a state with a positive moved cell; no state on it is Rare
 pub data Reaches (C : Cells) : ℕ → Type 0 where
-  here : {i : ℕ} (j : ℕ) → Kept C i → j < C .states → 0 < C .moved i j → Reaches C i
-  step : {i : ℕ} (j : ℕ) → Kept C i → j < C .states → 0 < C .stay i j → Reaches C j → Reaches C i
+  here : {i : ℕ} (j : ℕ) → NotRare C i → j < C .states → 0 < C .moved i j → Reaches C i
+  step : {i : ℕ} (j : ℕ) → NotRare C i → j < C .states → 0 < C .stay i j → Reaches C j → Reaches C i
 
-pub data Mark : Type 0 where
-  calibrated : Mark
-  rare : Mark
-  noPriceMove : Mark
-
--- the numbers of the model's statuses
-abbrev pub markNumber : Mark → ℕ
-markNumber calibrated = 0
-markNumber rare = 1
-markNumber noPriceMove = 2
-
--- what a mark of state i says
-abbrev pub Says : Cells → ℕ → Mark → Type 0
-Says C i calibrated = Kept C i × Reaches C i
-Says C i rare = Rare C i
-Says C i noPriceMove = Kept C i × (Reaches C i → ⊥)
+-- what a mark of state i says; no state is marked OutsideQuotes
+abbrev pub Says : Cells → ℕ → StateStatus → Type 0
+Says C i Status.Calibrated = NotRare C i × Reaches C i
+Says C i Status.Rare = Rare C i
+Says C i Status.NoPriceMove = NotRare C i × (Reaches C i → ⊥)
+Says C i Status.OutsideQuotes = ⊥
 
 -- each state's place holds the number of its mark; every other place is as it was
 pub record Marked (C : Cells) (before after : List ℕ) : Type 0 where
-  pub marks : (i : ℕ) → i < C .states → (m : Mark) × Says C i m × (getD after i 0 ≡ markNumber m)
+  pub marks : (i : ℕ) → i < C .states → (m : StateStatus) × Says C i m × (getD after i 0 ≡ statusNumber m)
   pub elsewhere : (i : ℕ) → C .states ≤ i → getD after i 0 ≡ getD before i 0
 
 -- ---- the mark as a function; proofs/Decided.antt proves that it says what is so
 
-abbrev pub isKept : Cells → ℕ → Bool
-isKept C i = leb (C .least) (observations C i)
+abbrev pub notRare : Cells → ℕ → Bool
+notRare C i = leb (C .least) (observations C i)
 
 -- whether there is a path of at most k steps
 unfoldable pub reachesIn : Cells → ℕ → ℕ → Bool
-reachesIn C zero i = isKept C i && someTo (C .states) (λ j. ltb 0 (C .moved i j))
+reachesIn C zero i = notRare C i && someTo (C .states) (λ j. ltb 0 (C .moved i j))
 reachesIn C (suc k) i =
-    reachesIn C k i || (isKept C i && someTo (C .states) (λ j. ltb 0 (C .stay i j) && reachesIn C k j))
+    reachesIn C k i || (notRare C i && someTo (C .states) (λ j. ltb 0 (C .stay i j) && reachesIn C k j))
 
 -- no path needs more steps than there are states
-unfoldable pub markOf : Cells → ℕ → Mark
-markOf C i = cond (isKept C i) (cond (reachesIn C (C .states) i) calibrated noPriceMove) rare
+unfoldable pub markOf : Cells → ℕ → StateStatus
+markOf C i = cond (notRare C i) (cond (reachesIn C (C .states) i) Status.Calibrated Status.NoPriceMove) Status.Rare

@@ -1,5 +1,5 @@
 // Which states the fit uses (document 01, "The fit"). Inner functions: for the crates above, not for users. Where one has a `requires`, each caller proves it.
-// Marks: 0 Calibrated, 1 Rare, 2 NoPriceMove. While paths are looked for, 2 is the mark of a state from which none is found yet.
+// Marks are numbers of `StateStatus`: 0 Calibrated, 1 Rare, 2 NoPriceMove. While paths are looked for, 2 is the mark of a state from which none is found yet.
 ghost use mathlib.Core.Path.{_≡_};
 ghost use mathlib.Core.Bool.{true, false};
 ghost use Prim.Native.Nat.{_+_, _*_, _<_, _≤_, _^_};

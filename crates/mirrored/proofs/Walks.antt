@@ -1,19 +1,17 @@
--- Walks by one: what is left of one, of tests at numbers, of checks at numbers, of a list's elements; and what one has stored.
+-- Walks by one: what is left of one, of tests at numbers and of a list's elements. Those of checks are in quotes.
 use Prim.Native.Nat.{ℕ, zero, suc, _+_, _-_, _≤_, _<_}
-use mathlib.Core.Path.{_≡_, refl, ap, _∙_}
+use mathlib.Core.Path.{_≡_, refl, ap, subst}
 use mathlib.Core.Bool.{Bool, true, false, _&&_}
 use mathlib.Core.List.{List}
+use mathlib.Core.Logic.{⊎-elim}
 use native.Mathlib.Omega.{arith}
 use native.Mathlib.Numerals.{add-one}
-use lib.ListN.{length, getD, drop, set, drop-of-length-le}
-use lib.Seq.{drop-cons, getD-set-same, getD-set-other}
-use borrow.Author.Count.{below-more}
+use lib.ListN.{length, getD, drop, drop-of-length-le}
+use lib.Seq.{drop-cons}
 use Rattle.basics.specs.Lists.{any, allFrom}
-use Rattle.basics.proofs.Tests.{still, gone}
+use Rattle.basics.proofs.Tests.{both, le-or-lt, still, gone}
 use Rattle.quotes.specs.Refusals.{firstOf, firstFrom}
 use Rattle.quotes.specs.declared.Check.{Check}
-use Rattle.quotes.specs.declared.Check.the-variants.{Fine, Refused}
-use Rattle.quotes.specs.declared.Refusal.{Refusal}
 
 -- what is left of m at the start
 pub whole : (m : ℕ) → m ≡ m - 0
@@ -29,15 +27,14 @@ module _ (p : ℕ → Bool) where
   pub all-end : (i m : ℕ) → m ≤ i → allFrom p i (m - i) ≡ true
   all-end i m h = rw (gone i m h)
 
-module _ (f : ℕ → Check) where
-  pub first-step : (i m : ℕ) (r : Check) → i < m → r ≡ f i → r ≡ Fine → firstFrom f i (m - i) ≡ firstFrom f (i + 1) (m - (i + 1))
-  first-step i m r h e t = rw (still i m h, ← e, t, add-one)
-
-  pub first-stop : (i m : ℕ) (r : Check) (x : Refusal) → i < m → r ≡ f i → r ≡ Refused x → firstFrom f i (m - i) ≡ r
-  first-stop i m r x h e t = rw (still i m h, ← e, t)
-
-  pub first-end : (i m : ℕ) → m ≤ i → firstFrom f i (m - i) ≡ Fine
-  first-end i m h = rw (gone i m h)
+  -- where all hold, each does
+  pub all-at : (i n k : ℕ) → allFrom p i n ≡ true → i ≤ k → k < i + n → p k ≡ true
+  all-at i zero k e l h = absurd (omega arith)
+  all-at i (suc n) k e l h =
+      let b = both (p i) (allFrom p (suc i) n) e in
+      ⊎-elim (λ (g : k ≤ i). subst (λ (j : ℕ). p j ≡ true) (let z : i ≡ k = omega arith in z) (b .0))
+      (λ (g : i < k). all-at (suc i) n k (b .1) (omega arith) (omega arith))
+      (le-or-lt k i)
 
 module _ {A : Type 0} (p : A → Bool) (d : A) (l : List A) (n : ℕ) (e : length l ≡ n) where
   pub any-step : (i : ℕ) → i < n → p (getD l i d) ≡ false → any p (drop i l) ≡ any p (drop (i + 1) l)
@@ -57,9 +54,3 @@ all-ext p q i (suc k) h = λ t. h i (omega arith) t && all-ext p q (suc i) k (λ
 pub first-ext : (f g : ℕ → Check) (i k : ℕ) → ((j : ℕ) → j < i + k → f j ≡ g j) → firstFrom f i k ≡ firstFrom g i k
 first-ext f g i zero h = refl
 first-ext f g i (suc k) h = λ t. firstOf (h i (omega arith) t) (first-ext f g (suc i) k (λ j b. h j (omega arith)) t)
-
--- a list filled from the front by a function of the place
-pub filled-by : {A : Type 0} (f : ℕ → A) (l : List A) (i : ℕ) (v d : A) → i < length l → v ≡ f i → ((k : ℕ) → k < i → getD l k d ≡ f k) → (k : ℕ) → k < i + 1 → getD (set l i v) k d ≡ f k
-filled-by f l i v d h e below =
-    below-more (λ k. getD (set l i v) k d ≡ f k) i (λ k b. getD-set-other l i k v d (λ q. omega arith) ∙ below k b)
-    (getD-set-same l i v d h ∙ e)

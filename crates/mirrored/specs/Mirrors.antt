@@ -6,6 +6,9 @@ use lib.Dec.{eqb}
 use lib.IntN.{ℤ, pos, negsuc, negℤ}
 use lib.ListN.{getD}
 use Rattle.basics.specs.Lists.{any, allFrom, sum}
+use Rattle.quotes.specs.Configuration.{states}
+use Rattle.quotes.specs.States.{mirrorOf}
+use Rattle.quotes.specs.declared.MicroPriceConfig.{MicroPriceConfig}
 use Rattle.quotes.specs.Refusals.{refuseIf, firstOf, firstFrom}
 use Rattle.quotes.specs.declared.Check.{Check}
 use Rattle.tally.specs.Entries.{Tables, overTotal}
@@ -57,3 +60,7 @@ abbrev pub checkCounts : ℕ → (ℕ → ℕ) → Counts → Check
 checkCounts N mirror k =
     firstOf (refuseIf (storedOver k) 6)
     (firstOf (firstFrom (checkState N mirror (k .tables)) 0 N) (refuseIf (not (isTwice (k .pairs) (k .tables))) 11))
+
+-- of a configuration's states
+abbrev pub checkMirrored : MicroPriceConfig → Counts → Check
+checkMirrored c k = checkCounts (states c) (mirrorOf (c .«imbalance_buckets»)) k

@@ -19,7 +19,7 @@ ghost use Rattle.words.specs.Words.{WordOf};
 ghost use Rattle.tally.specs.Entries.{tables, overTotal};
 ghost use Rattle.tally.specs.Limits.{overCounter};
 ghost use Rattle.calibrator.specs.Record.{countsOf, skipsOf};
-ghost use Rattle.mirrored.specs.Mirrors.{totalMirrored, cellsAlike, rowMirrored, checkState, isTwice, checkCounts, countersOver};
+ghost use Rattle.mirrored.specs.Mirrors.{totalMirrored, cellsAlike, rowMirrored, checkState, isTwice, checkCounts, checkMirrored, countersOver};
 ghost use Rattle.mirrored.specs.Lies.{cellsIn, totalsIn, tablesIn, Holds, Lies, Mirrors, withinWord, oppositeWords};
 
 // Cell i of a table, from the slice or, if imaged, from the bytes.
@@ -263,7 +263,7 @@ pub fn check_counts(
 }
 
 // The mirrors of a configuration's states.
-fn mirrors_of(c: MicroPriceConfig) -> [usize; 256]
+pub fn mirrors_of(c: MicroPriceConfig) -> [usize; 256]
     requires { ⌜ Valid c ⌝ }
     ensures { λ r. ⌜ ((i : ℕ) → i < states c → getD r i 0 ≡ mirrorOf (c .«imbalance_buckets») i) ⌝ }
 {
@@ -290,7 +290,7 @@ pub fn check_tables(
     imaged: bool,
 ) -> Check
     requires { ⌜ Valid config × Lies imaged (states config) (length (now stay)) (length (now moved)) (length (now totals)) (length (now sb)) (length (now mb)) (length (now tb)) ⌝ }
-    ensures { λ r. ⌜ r ≡ checkCounts (states config) (mirrorOf (config .«imbalance_buckets»)) (countsOf counters (tablesIn imaged (now (stay .entry)) (now (moved .entry)) (now (totals .entry)) (now (sb .entry)) (now (mb .entry)) (now (tb .entry)))) ⌝ }
+    ensures { λ r. ⌜ r ≡ checkMirrored config (countsOf counters (tablesIn imaged (now (stay .entry)) (now (moved .entry)) (now (totals .entry)) (now (sb .entry)) (now (mb .entry)) (now (tb .entry)))) ⌝ }
 {
     let n = quotes::inner::state_count(config);
     let mirrors = mirrors_of(config);
@@ -317,7 +317,7 @@ pub fn check_mirrored_counts(
     move_half_ticks: &[i64],
 ) -> Check
     requires { ⌜ Valid config × (length (now stay) ≡ states config * states config) × (length (now moved) ≡ states config * states config) × (length (now «move_half_ticks») ≡ states config) ⌝ }
-    ensures { λ r. ⌜ r ≡ checkCounts (states config) (mirrorOf (config .«imbalance_buckets»)) (countsOf counters (tables (now (stay .entry)) (now (moved .entry)) (now («move_half_ticks» .entry)))) ⌝ }
+    ensures { λ r. ⌜ r ≡ checkMirrored config (countsOf counters (tables (now (stay .entry)) (now (moved .entry)) (now («move_half_ticks» .entry)))) ⌝ }
 {
     let none = [0u8; 1];
     check_tables(

@@ -9,42 +9,36 @@ use native.Mathlib.Omega.{arith}
 use lib.Dec.{T}
 use lib.Ieee.{Float, nan, inf, fin, binary64, fits, isNan}
 use lib.Ieee.Bits.{ofBits-toBits, toBits-ofBits, ofBits-fits}
-use lib.ListN.{length, getD, set, length-set}
-use lib.Seq.{sets, length-sets, getD-set-same, getD-set-other}
+use lib.ListN.{length, getD, set}
+use lib.Seq.{sets, length-sets}
 use Rattle.basics.proofs.Tests.{le-or-lt}
+use Rattle.basics.proofs.Stores.{sets-at, sets-below, sets-above}
 use Rattle.floats.specs.Floats.{plusZero, toBits, fromBits}
 use Rattle.model.specs.Rows.{floatWord, rowWords, rowWord, rowAt, plusZeros}
 use Rattle.model.specs.declared.StateEstimate.{StateEstimate}
 
 -- seven stores, one after another
-pub seven-stores : (l : List ℕ) (p a b c d e f g : ℕ)
+seven-stores : (l : List ℕ) (p a b c d e f g : ℕ)
     → set (set (set (set (set (set (set l p a) (p + 1) b) (p + 2) c) (p + 3) d) (p + 4) e) (p + 5) f) (p + 6) g ≡ sets l p (a ∷ b ∷ c ∷ d ∷ e ∷ f ∷ g ∷ [])
 seven-stores l p a b c d e f g = simp unary-clauses refl
+
+-- seven stores of the words of a row, each word by itself
+pub row-written : (l : List ℕ) (p : ℕ) (e : StateEstimate) (a b c d f g h : ℕ)
+    → a ≡ e .«imbalance_bucket»
+    → b ≡ e .«spread_ticks»
+    → c ≡ e .observations
+    → d ≡ floatWord (e .«first_adjustment»)
+    → f ≡ floatWord (e .adjustment)
+    → g ≡ floatWord (e .«fallback_within_moves»)
+    → h ≡ e .status
+    → set (set (set (set (set (set (set l p a) (p + 1) b) (p + 2) c) (p + 3) d) (p + 4) f) (p + 5) g) (p + 6) h ≡ sets l p (rowWords e)
+row-written l p e a b c d f g h ea eb ec ed ef eg eh =
+    seven-stores l p a b c d f g h ∙ (λ j. sets l p (ea j ∷ eb j ∷ ec j ∷ ed j ∷ ef j ∷ eg j ∷ eh j ∷ []))
 
 pub length-row : (e : StateEstimate) → length (rowWords e) ≡ 7
 length-row e = refl
 
 -- ---- reading what was written
-
--- words outside the stores stay
-pub sets-below : (vs l : List ℕ) (i j : ℕ) → j < i → getD (sets l i vs) j 0 ≡ getD l j 0
-sets-below [] l i j h = refl
-sets-below (v ∷ vs) l i j h = sets-below vs (set l i v) (suc i) j (omega arith) ∙ getD-set-other l i j v 0 (λ e. omega arith)
-
-pub sets-above : (vs l : List ℕ) (i j : ℕ) → i + length vs ≤ j → getD (sets l i vs) j 0 ≡ getD l j 0
-sets-above [] l i j h = refl
-sets-above (v ∷ vs) l i j h = sets-above vs (set l i v) (suc i) j (omega arith) ∙ getD-set-other l i j v 0 (λ e. omega arith)
-
--- and the stores can be read
-pub sets-at : (vs l : List ℕ) (i k : ℕ) → k < length vs → i + length vs ≤ length l → getD (sets l i vs) (i + k) 0 ≡ getD vs k 0
-sets-at [] l i k h r = absurd (omega arith)
-sets-at (v ∷ vs) l i zero h r =
-    ap (λ (j : ℕ). getD (sets (set l i v) (suc i) vs) j 0) (let e : i + 0 ≡ i = omega arith in e)
-    ∙ sets-below vs (set l i v) (suc i) i (omega arith)
-    ∙ getD-set-same l i v 0 (omega arith)
-sets-at (v ∷ vs) l i (suc k) h r =
-    ap (λ (j : ℕ). getD (sets (set l i v) (suc i) vs) j 0) (let e : i + suc k ≡ suc i + k = omega arith in e)
-    ∙ sets-at vs (set l i v) (suc i) k (omega arith) (omega (arith, length-set l i v))
 
 plus-fits : (x : Float) → T (fits binary64 x) → T (fits binary64 (plusZero x))
 unfolding plusZero fits
@@ -74,7 +68,7 @@ row-held t i =
 -- the estimate read from the row that was written for e: e, each zero as plus zero
 pub row-back : (t : List ℕ) (i : ℕ) (e : StateEstimate) → Held e → 7 * i + 7 ≤ length t → rowAt (sets t (7 * i) (rowWords e)) i ≡ plusZeros e
 row-back t i e h r =
-    let word : (k : ℕ) → k < 7 → rowWord (sets t (7 * i) (rowWords e)) i k ≡ getD (rowWords e) k 0 = λ k b. sets-at (rowWords e) t (7 * i) k b r in
+    let word : (k : ℕ) → k < 7 → rowWord (sets t (7 * i) (rowWords e)) i k ≡ getD (rowWords e) k 0 = λ k b. sets-at 0 (rowWords e) t (7 * i) k b r in
     λ j.
     record {
       «imbalance_bucket» = word 0 (omega arith) j;
@@ -107,8 +101,8 @@ row-same t i e h r first final share =
 
 -- no word outside the row changes
 pub word-elsewhere : (t : List ℕ) (i : ℕ) (e : StateEstimate) (j : ℕ) → (j < 7 * i) ⊎ (7 * i + 7 ≤ j) → getD (sets t (7 * i) (rowWords e)) j 0 ≡ getD t j 0
-word-elsewhere t i e j (inl h) = sets-below (rowWords e) t (7 * i) j h
-word-elsewhere t i e j (inr h) = sets-above (rowWords e) t (7 * i) j h
+word-elsewhere t i e j (inl h) = sets-below 0 (rowWords e) t (7 * i) j h
+word-elsewhere t i e j (inr h) = sets-above 0 (rowWords e) t (7 * i) j h
 
 -- nor does the row of another state
 pub row-elsewhere : (t : List ℕ) (i j : ℕ) (e : StateEstimate) → j ≢ i → rowAt (sets t (7 * i) (rowWords e)) j ≡ rowAt t j

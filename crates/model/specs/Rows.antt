@@ -5,15 +5,6 @@ use lib.Ieee.{Float}
 use lib.ListN.{getD}
 use Rattle.floats.specs.Floats.{toBits, fromBits, plusZero}
 use Rattle.model.specs.declared.StateEstimate.{StateEstimate}
-use Rattle.model.specs.declared.StateStatus.{StateStatus}
-use Rattle.model.specs.declared.StateStatus.the-variants.{Calibrated, Rare, NoPriceMove, OutsideQuotes}
-
--- status 0 Calibrated, 1 Rare, 2 NoPriceMove, 3 OutsideQuotes
-abbrev pub statusNumber : StateStatus → ℕ
-statusNumber Calibrated = 0
-statusNumber Rare = 1
-statusNumber NoPriceMove = 2
-statusNumber OutsideQuotes = 3
 
 -- ---- writing
 

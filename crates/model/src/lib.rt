@@ -1,7 +1,7 @@
 // A fitted model: the estimate of each state (document 01, "The fit", "Model and signal").
 pub mod inner;
 
-// Whether a state's adjustment is used: `statusNumber` of specs/Rows.antt.
+// Whether a state's adjustment is used: `statusNumber` of specs/Status.antt.
 pub enum StateStatus {
     // The adjustment is estimated and used.
     Calibrated,

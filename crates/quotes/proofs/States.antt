@@ -8,7 +8,7 @@ use lib.Dec.{ltb}
 use borrow.Author.Tests.{ltb-false}
 use Rattle.quotes.specs.Configuration.{states, valid}
 use Rattle.quotes.specs.Quotes.{spreadOf, checkQuote}
-use Rattle.quotes.specs.States.{spreadIn, bucketIn, mirrorOf, at, mirrorAt, placeOf, stateOf}
+use Rattle.quotes.specs.States.{bucketOf, stateAt, spreadIn, bucketIn, mirrorOf, at, mirrorAt, placeOf, stateOf}
 use Rattle.quotes.specs.Known.{Valid, Accepted, Located}
 use Rattle.quotes.specs.declared.At.{At}
 use Rattle.quotes.specs.declared.Check.{Check}
@@ -19,6 +19,7 @@ use Rattle.quotes.specs.declared.Reason.the-variants.{SpreadOutOfRange}
 use Rattle.quotes.specs.declared.TopOfBook.{TopOfBook}
 use Rattle.quotes.proofs.Buckets.{bucket-le}
 use Rattle.quotes.proofs.Known.{valid-known, fine-known}
+use Rattle.quotes.proofs.Ticks.{spread-least}
 use Rattle.basics.proofs.Lists.{flat-row, flat-column, flat-below}
 
 row-below : (n s i b : ℕ) → i < s → b < n → i * n + b < n * s
@@ -85,6 +86,15 @@ place-located c q v a e =
       mirror-below = rw m (mirror-below n (a .state) (omega (arith, v .n-least)) (c .«spread_states») l);
       mirrors = m;
     }
+
+-- the spread of a place's state is the quote's
+pub place-spread : (c : MicroPriceConfig) (q : TopOfBook) → Valid c → Accepted c q → (a : At) → placeOf c q ≡ State a → spreadIn (c .«imbalance_buckets») (a .state) ≡ spreadOf c q
+place-spread c q v f a e =
+    let n = c .«imbalance_buckets» in
+    let b = bucketOf (q .«bid_size») (q .«ask_size») n in
+    let l : b < n = omega (arith, bucket-le (q .«bid_size») (q .«ask_size») n, v .n-least) in
+    let p = placed (ltb (c .«spread_states») (spreadOf c q)) (at n (stateAt n (spreadOf c q) b)) a e in
+    rw (← p .1, flat-row n (spreadOf c q - 1) b l) (omega (arith, spread-least c q v f))
 
 -- a quote has a state only if nothing refuses it
 pub state-usable : (c : MicroPriceConfig) (q : TopOfBook) (a : At) → stateOf c q ≡ State a → Valid c × Accepted c q × (placeOf c q ≡ State a)

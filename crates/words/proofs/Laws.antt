@@ -1,12 +1,13 @@
 -- Stores of words, byte by byte, and their reading.
 use mathlib.Core.Path.{_≡_, refl, sym, _∙_, ap}
-use mathlib.Core.List.{List, [], _∷_, _++_, append-nil}
+use mathlib.Core.List.{List, [], _∷_, _++_}
 use Prim.Native.Nat.{ℕ, zero, suc, _+_, _*_, _-_, _/_, _%_, _<_, _≤_, _^_}
 use native.Mathlib.Nat.{div-add-mod', pow-suc, pow-le-pow-right}
 use native.Mathlib.Omega.{arith}
 use lib.ListN.{length, getD, take, drop, set, length-append}
-use lib.Seq.{sets, sets-eq, drop-cons, take-all, drop-drop, take-suc-set, take-suc}
+use lib.Seq.{sets, drop-cons, take-all, drop-drop, take-suc-set, take-suc}
 use lib.ListN.{drop-of-length-le}
+use Rattle.basics.proofs.Stores.{sets-append}
 use Rattle.words.specs.Words.{digits, value, bytesOf, wordsOf, wordAt}
 
 pub length-digits : (k w : ℕ) → length (digits k w) ≡ k
@@ -25,14 +26,6 @@ length-bytes [] = refl
 length-bytes (w ∷ ws) = length-append (digits 8 w) (bytesOf ws) ∙ omega (arith, length-digits 8 w, length-bytes ws)
 
 -- ---- stores one after another
-
-pub sets-append : (xs ys l : List ℕ) (i : ℕ) → sets l i (xs ++ ys) ≡ sets (sets l i xs) (i + length xs) ys
-sets-append [] ys l i = ap (λ (k : ℕ). sets l k ys) (omega arith)
-sets-append (x ∷ xs) ys l i = sets-append xs ys (set l i x) (suc i) ∙ ap (λ (k : ℕ). sets (sets (set l i x) (suc i) xs) k ys) (omega arith)
-
--- stores from the start to the end leave nothing of what was there
-pub sets-whole : (xs l : List ℕ) → length xs ≡ length l → sets l 0 xs ≡ xs
-sets-whole xs l e = sets-eq xs l 0 (omega arith) ∙ ap (λ (r : List ℕ). xs ++ r) (drop-of-length-le l {i = 0 + length xs} (omega arith)) ∙ append-nil xs
 
 -- a byte of a word, and those that are left
 pub put-step : (out : List ℕ) (at k x : ℕ) → k < 8 → sets (set out (at + k) (x % 256)) (at + (k + 1)) (digits (8 - (k + 1)) (x / 256)) ≡ sets out (at + k) (digits (8 - k) x)

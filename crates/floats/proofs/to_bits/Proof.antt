@@ -1,4 +1,4 @@
-use borrow.Author.Needs.{needs}
+use mathlib.Core.Path.{refl}
 use lib.Ieee.{toBits}
 use Rattle.floats.proofs.Helpers.{nan-is, no-nan}
 use Rattle.floats.proofs.to_bits.Statement.{statement}
@@ -12,7 +12,8 @@ float-to-bits-result : tie.Need-float-to-bits-result
 float-to-bits-result c = rw (no-nan _ (c .if1 .left)) tt
 
 returns-2 : tie.Need-returns-2
-returns-2 c = search needs
+unfolding toBits
+returns-2 c = refl
 
 pub to-bits-spec : {M : Type 1} → statement M
 to-bits-spec = tie.close (tie.spec returns float-to-bits-result returns-2)

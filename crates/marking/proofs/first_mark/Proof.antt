@@ -2,7 +2,8 @@ use mathlib.Core.Path.{sym, _∙_}
 use denote.Ref.{now}
 use native.Mathlib.Omega.{arith}
 use borrow.Author.Needs.{needs}
-use Rattle.marking.proofs.Rows.{row-in, first-rare, first-path, first-none}
+use Rattle.basics.proofs.Tests.{row-in}
+use Rattle.marking.proofs.Rows.{first-rare, first-path, first-none}
 use Rattle.marking.proofs.first_mark.Statement.{statement}
 use Rattle.marking.proofs.first_mark.Tie as tie
 
@@ -17,7 +18,7 @@ returns c =
 has-positive-requires : tie.Need-has-positive-requires
 has-positive-requires c κs =
     let a = c .before .before .before .before .args in
-    let r = row-in (a .x) (a .n) (omega arith) in
+    let r = row-in (a .x) (a .n) (a .n) (omega arith) in
     omega arith
 
 returns-2 : tie.Need-returns-2

@@ -1,28 +1,28 @@
 use Prim.Native.Nat.{_≤_, _-_}
 use denote.Ref.{now}
 use native.Mathlib.Omega.{arith}
+use Rattle.basics.proofs.Stores.{Stored, stored-none, stored-more}
 use Rattle.marking.specs.Steps.{firstMark}
-use Rattle.marking.proofs.Rows.{Stored, stored-none, stored-more}
 use Rattle.marking.proofs.first_marks.Statement.{statement}
 use Rattle.marking.proofs.first_marks.Tie as tie
 
 abbrev Inv-loop : tie.InvT-loop
-Inv-loop stay moved n least marks₀ x₀ marks x = (x ≤ n) × Stored (firstMark n least stay moved) x marks₀ marks
+Inv-loop stay moved n least marks₀ x₀ marks x = (x ≤ n) × Stored 0 (firstMark n least stay moved) x marks₀ marks
 
 abbrev μ-loop : tie.MeasureT-loop
 μ-loop stay moved n least marks₀ x₀ marks x = n - x
 
 loop-holds : tie.Need-loop-holds Inv-loop μ-loop
-loop-holds c = (omega arith, stored-none _ _)
+loop-holds c = (omega arith, stored-none 0 _ _)
 
 first-mark-requires : tie.Need-first-mark-requires Inv-loop μ-loop
 first-mark-requires c κs = (c .before .before .before .before .before .pre .0, omega arith)
 
 mul-marks : tie.Need-mul-marks Inv-loop μ-loop
-mul-marks c = omega (arith, c .before .before .loop .inv .1 .sized)
+mul-marks c = omega (arith, c .before .before .loop .inv .1 .same-length)
 
 slice-write-marks : tie.Need-slice-write-marks Inv-loop μ-loop
-slice-write-marks c = omega (arith, c .before .before .loop .inv .1 .sized)
+slice-write-marks c = omega (arith, c .before .before .loop .inv .1 .same-length)
 
 add-x : tie.Need-add-x Inv-loop μ-loop
 add-x c = omega arith
@@ -34,10 +34,10 @@ loop-again : tie.Need-loop-again Inv-loop μ-loop
 loop-again c =
     let a = c .before .before .before .before .before .before .args in
     let l = c .before .before .loop in
-    (omega arith, stored-more (firstMark (a .n) (a .least) (now (a .stay)) (now (a .moved))) (l .x) (c .first-mark .result) (now (a .marks)) (l .marks) (l .inv .1) (omega (arith, l .inv .1 .sized)) (c .first-mark .ensures))
+    (omega arith, stored-more 0 (firstMark (a .n) (a .least) (now (a .stay)) (now (a .moved))) (l .x) (c .first-mark .result) (now (a .marks)) (l .marks) (l .inv .1) (omega (arith, l .inv .1 .same-length)) (c .first-mark .ensures))
 
 same-length : tie.Need-same-length Inv-loop μ-loop
-same-length c = c .before .loop .inv .1 .sized
+same-length c = c .before .loop .inv .1 .same-length
 
 returns : tie.Need-returns Inv-loop μ-loop
 returns c =

@@ -3,7 +3,7 @@ use mathlib.Core.Bool.{false≢true, true≢false}
 use mathlib.Core.Path.{refl, sym, _∙_}
 use native.Mathlib.Omega.{arith}
 use borrow.Author.Needs.{needs}
-use Rattle.marking.proofs.Rows.{row-in}
+use Rattle.basics.proofs.Tests.{row-in}
 use Rattle.marking.proofs.look_at.Statement.{statement}
 use Rattle.marking.proofs.look_at.Tie as tie
 
@@ -19,7 +19,7 @@ returns c = (λ e. absurd (false≢true e), λ e. record { same = refl; leads-no
 leads-out-requires : tie.Need-leads-out-requires
 leads-out-requires c κs =
     let a = c .before .before .before .before .before .args in
-    let r = row-in (a .x) (a .n) (omega arith) in
+    let r = row-in (a .x) (a .n) (a .n) (omega arith) in
     (omega arith, omega arith)
 
 same-length : tie.Need-same-length

@@ -1,21 +1,22 @@
 use denote.Ref.{now}
 use native.Mathlib.Omega.{arith}
+use Rattle.basics.proofs.Tests.{row-in}
 use Rattle.marking.specs.Marks.{observations}
-use Rattle.marking.proofs.Rows.{row-in, row-fits}
+use Rattle.marking.proofs.Rows.{row-fits}
 use Rattle.marking.proofs.observations_of.Statement.{statement}
 use Rattle.marking.proofs.observations_of.Tie as tie
 
 row-sum-requires : tie.Need-row-sum-requires
 row-sum-requires c κs =
     let a = c .before .before .args in
-    let r = row-in (a .x) (a .n) (omega arith) in
+    let r = row-in (a .x) (a .n) (a .n) (omega arith) in
     let f = row-fits (a .n) (now (a .stay)) (now (a .moved)) (a .x) (c .before .before .pre .0) (c .before .before .pre .1) in
     (omega arith, omega arith)
 
 row-sum-requires-2 : tie.Need-row-sum-requires-2
 row-sum-requires-2 c κs =
     let a = c .before .before .before .args in
-    let r = row-in (a .x) (a .n) (omega arith) in
+    let r = row-in (a .x) (a .n) (a .n) (omega arith) in
     let f = row-fits (a .n) (now (a .stay)) (now (a .moved)) (a .x) (c .before .before .before .pre .0) (c .before .before .before .pre .1) in
     (omega arith, omega arith)
 

@@ -11,7 +11,8 @@ use Rattle.quotes.specs.Refusals.{firstFrom}
 use Rattle.quotes.specs.declared.Check.{Check}
 use Rattle.mirrored.specs.Mirrors.{checkState}
 use Rattle.mirrored.specs.Lies.{tablesIn}
-use Rattle.mirrored.proofs.Walks.{whole, first-step, first-stop, first-end}
+use Rattle.quotes.proofs.Refusals.{first-step, first-stop, first-end}
+use Rattle.mirrored.proofs.Walks.{whole}
 use Rattle.mirrored.proofs.check_states.Statement.{statement}
 use Rattle.mirrored.proofs.check_states.Tie as tie
 

@@ -4,7 +4,7 @@ use native.Mathlib.Omega.{arith}
 use lib.ListN.{length-set, length, getD}
 use borrow.Author.Count.{falls, below-none}
 use Rattle.quotes.specs.States.{mirrorOf}
-use Rattle.mirrored.proofs.Walks.{filled-by}
+use Rattle.basics.proofs.Stores.{filled-by}
 use Rattle.mirrored.proofs.mirrors_of.Statement.{statement}
 use Rattle.mirrored.proofs.mirrors_of.Tie as tie
 

@@ -1,5 +1,5 @@
 use borrow.Author.Needs.{needs}
-use Rattle.floats.specs.Floats.{half}
+use Rattle.floats.proofs.Helpers.{half-is}
 use Rattle.floats.proofs.inner.half_tick.Statement.{statement}
 use Rattle.floats.proofs.inner.half_tick.Tie as tie
 
@@ -7,8 +7,7 @@ from-u64-requires : tie.Need-from-u64-requires
 from-u64-requires c κs = search needs
 
 returns : tie.Need-returns
-unfolding half
-returns c = cc
+returns c = half-is (c .from-u64 .result) (c .before .args .tick) (c .from-u64 .ensures)
 
 pub half-tick-spec : {M : Type 1} → statement M
 half-tick-spec = tie.close (tie.spec from-u64-requires returns)

@@ -3,8 +3,8 @@ use Prim.Native.Nat.{_≤_, _-_}
 use mathlib.Core.Path.{_≡_, refl}
 use mathlib.Core.Logic.{inl, inr, ⊎-elim}
 use lib.ListN.{length}
+use Rattle.basics.proofs.Tests.{row-in}
 use Rattle.linear.specs.Loops.{ClearedRows}
-use Rattle.linear.proofs.Parts.{row-in}
 use Rattle.linear.proofs.Rows.{cleared-rows-none, cleared-rows-more}
 use Rattle.linear.proofs.inner.clear_rows.Statement.{statement}
 use Rattle.linear.proofs.inner.clear_rows.Tie as tie

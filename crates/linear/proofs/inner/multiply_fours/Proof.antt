@@ -2,9 +2,10 @@ use native.Mathlib.Omega.{arith}
 use Prim.Native.Nat.{_≤_, _-_, _+_}
 use mathlib.Core.Path.{_≡_, refl}
 use lib.ListN.{length, length-set}
+use Rattle.basics.proofs.Tests.{row-in}
 use Rattle.linear.specs.Scratch.{width}
 use Rattle.linear.specs.Loops.{ProductTo}
-use Rattle.linear.proofs.Parts.{row-in, filled-none}
+use Rattle.linear.proofs.Parts.{filled-none}
 use Rattle.linear.proofs.Products.{product-four}
 use Rattle.linear.proofs.inner.multiply_fours.Statement.{statement}
 use Rattle.linear.proofs.inner.multiply_fours.Tie as tie

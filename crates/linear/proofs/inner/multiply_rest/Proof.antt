@@ -4,9 +4,9 @@ use mathlib.Core.Path.{_≡_, refl}
 use mathlib.Core.List.{List}
 use lib.Ieee.{Float}
 use lib.ListN.{length, length-set}
+use Rattle.basics.proofs.Tests.{row-in}
 use Rattle.linear.specs.Scratch.{width}
 use Rattle.linear.specs.Loops.{ProductTo}
-use Rattle.linear.proofs.Parts.{row-in}
 use Rattle.linear.proofs.Products.{product-more}
 use Rattle.linear.proofs.inner.multiply_rest.Statement.{statement}
 use Rattle.linear.proofs.inner.multiply_rest.Tie as tie

@@ -1,6 +1,6 @@
 use native.Mathlib.Omega.{arith}
 use mathlib.Core.Logic.{inl, inr}
-use Rattle.linear.proofs.Parts.{row-in}
+use Rattle.basics.proofs.Tests.{row-in}
 use Rattle.linear.proofs.Rows.{column-becomes}
 use Rattle.linear.proofs.Columns.{column-singular, column-solved}
 use borrow.Author.Needs.{needs}

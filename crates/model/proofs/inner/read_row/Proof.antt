@@ -1,6 +1,9 @@
-use Prim.Native.Nat.{_*_}
+use mathlib.Core.Path.{_≡_, sym, ap}
+use Prim.Native.Nat.{ℕ, _*_}
 use native.Mathlib.Nat.{add-zero}
+use lib.ListN.{getD}
 use borrow.Author.Needs.{needs}
+use Rattle.model.specs.Rows.{rowWord}
 use Rattle.model.proofs.inner.read_row.Statement.{statement}
 use Rattle.model.proofs.inner.read_row.Tie as tie
 
@@ -76,8 +79,23 @@ mul-t22 c = search needs
 shared-slice-read-t24 : tie.Need-shared-slice-read-t24
 shared-slice-read-t24 c = search needs
 
+-- each word by itself
 returns : tie.Need-returns
-returns c = rw (add-zero (7 * c .before .before .before .before .before .before .before .before .before .before .before .args .i), c .before .before .before .before .before .before .before .before .from-bits .ensures, c .before .before .before .before .before .before .from-bits2 .ensures, c .before .before .before .before .from-bits3 .ensures)
+returns c =
+    let a = c .before .before .before .before .before .before .before .before .before .before .before .args in
+    let t = a .table .now in
+    let k = a .i in
+    let bucket : getD t (7 * k) 0 ≡ rowWord t k 0 = ap (λ (p : ℕ). getD t p 0) (sym (add-zero (7 * k))) in
+    λ j.
+    record {
+      «imbalance_bucket» = bucket j;
+      «spread_ticks» = rowWord t k 1;
+      observations = rowWord t k 2;
+      «first_adjustment» = c .before .before .before .before .before .before .before .before .from-bits .ensures j;
+      adjustment = c .before .before .before .before .before .before .from-bits2 .ensures j;
+      «fallback_within_moves» = c .before .before .before .before .from-bits3 .ensures j;
+      status = rowWord t k 6;
+    }
 
 pub read-row-spec : {M : Type 1} → statement M
 read-row-spec =

@@ -1,7 +1,7 @@
 use native.Mathlib.Omega.{arith}
 use Prim.Native.Nat.{_*_}
 use lib.ListN.{length-set}
-use Rattle.model.proofs.Rows.{seven-stores}
+use Rattle.model.proofs.Rows.{row-written}
 use borrow.Author.Needs.{needs}
 use Rattle.model.proofs.inner.write_row.Statement.{statement}
 use Rattle.model.proofs.inner.write_row.Tie as tie
@@ -81,10 +81,11 @@ slice-write-table-7 c = simp length-set (omega arith)
 same-length : tie.Need-same-length
 same-length c = search needs
 
+-- each word by itself
 returns : tie.Need-returns
 returns c =
     let a = c .before .before .before .before .args in
-    rw (← c .before .before .float-word .ensures, ← c .before .float-word2 .ensures, ← c .float-word3 .ensures) (seven-stores (a .table .now) (7 * a .i) _ _ _ _ _ _ _)
+    row-written (a .table .now) (7 * a .i) (a .e) _ _ _ _ _ _ _ (omega arith) (omega arith) (omega arith) (omega arith) (omega arith) (omega arith) (omega arith)
 
 pub write-row-spec : {M : Type 1} → statement M
 write-row-spec =

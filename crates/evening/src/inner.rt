@@ -1,0 +1,167 @@
+// The work by value, and the functions that it is made of. `calibrate_micro_price` asks nothing; where another has a `requires`, each caller proves it.
+use super::Counted;
+use super::Evening;
+use super::EveningDone;
+use calibrator::Record;
+use quotes::Check;
+use quotes::MicroPriceConfig;
+use quotes::Refusal;
+use recording::Recorded;
+use recording::Window;
+ghost use mathlib.Core.Path.{_≡_};
+ghost use mathlib.Core.Bool.{false};
+ghost use lib.ListN.{length};
+ghost use Rattle.quotes.specs.declared.Check.the-variants.{Fine};
+ghost use Rattle.calibrator.specs.Record.{memory};
+ghost use Rattle.calibrator.specs.Observe.{checkRoom, fresh};
+ghost use Rattle.recording.specs.Recording.{quotesOf, uneven};
+ghost use Rattle.recording.specs.Window.{checkWindow};
+ghost use Rattle.recording.specs.Observe.{recorded, endRecorded};
+ghost use Rattle.evening.specs.Evening.{checkLengths, endEvening, counted, calibrated};
+
+// 7, 14, 15.
+fn check_window(w: &[u64], start: u64, end: u64) -> Check
+    ensures { λ r. ⌜ r ≡ checkWindow (now (w .entry)) start end ⌝ }
+{
+    match recording::window_of(w, start, end) {
+        Window::Part(_) => Check::Fine,
+        Window::Refused(r) => Check::Refused(r),
+    }
+}
+
+// 7, 14, 15, 1, 7.
+fn check_evening(
+    w: &[u64],
+    start: u64,
+    end: u64,
+    c: MicroPriceConfig,
+    stay: usize,
+    moved: usize,
+    totals: usize,
+    scratch: usize,
+    model: usize,
+) -> Check
+    ensures { λ r. ⌜ r ≡ checkLengths c (now (w .entry)) start end stay moved totals scratch model ⌝ }
+{
+    let window = check_window(w, start, end);
+    let Check::Fine = window else {
+        return window;
+    };
+    let room = calibrator::inner::check_room(c, stay, moved, totals);
+    let Check::Fine = room else {
+        return room;
+    };
+    if fit::inner::wrong_room(quotes::inner::state_count(c), scratch, model) {
+        return Check::Refused(Refusal::SliceLength);
+    }
+    Check::Fine
+}
+
+// A part of a recording given to a new calibrator.
+fn count_part(
+    rec: Record,
+    stay: &mut [u64],
+    moved: &mut [u64],
+    move_half_ticks: &mut [i64],
+    config: MicroPriceConfig,
+    part: &[u64],
+) -> Recorded
+    requires { ⌜ (checkRoom config (length (now stay)) (length (now moved)) (length (now «move_half_ticks»)) ≡ Fine) × (uneven (now part) ≡ false) ⌝ }
+    ensures { λ d. ⌜ endRecorded (d .answer) (d .invalid) (d .next) (now (stay .exit)) (now (moved .exit)) (now («move_half_ticks» .exit)) ≡ recorded config (quotesOf (now (part .entry))) 0 (fresh config) ⌝ }
+{
+    let new = calibrator::inner::new(rec, stay, moved, move_half_ticks, config);
+    let begun = new.next;
+    recording::inner::observe_recording(begun, stay, moved, move_half_ticks, config, part)
+}
+
+// The same, then the fit. A quote that stops it leaves a new calibrator.
+fn count_and_fit(
+    rec: Record,
+    stay: &mut [u64],
+    moved: &mut [u64],
+    move_half_ticks: &mut [i64],
+    config: MicroPriceConfig,
+    part: &[u64],
+    scratch: &mut [f64],
+    model: &mut [u64],
+) -> EveningDone
+    requires { ⌜ (checkRoom config (length (now stay)) (length (now moved)) (length (now «move_half_ticks»)) ≡ Fine) × (uneven (now part) ≡ false) ⌝ }
+    ensures { λ r. ⌜ endEvening (r .answer) (memory (r .next) (now (stay .exit)) (now (moved .exit)) (now («move_half_ticks» .exit))) (now (model .exit)) (now (scratch .exit)) ≡ counted config (recorded config (quotesOf (now (part .entry))) 0 (fresh config)) (now (model .entry)) (now (scratch .entry)) ⌝ }
+{
+    let done = count_part(rec, stay, moved, move_half_ticks, config, part);
+    let observed = done.answer;
+    let invalid = done.invalid;
+    let next = done.next;
+    match observed {
+        Check::Refused(r) => {
+            let new = calibrator::inner::new(next, stay, moved, move_half_ticks, config);
+            let emptied = new.next;
+            EveningDone {
+                answer: Evening::Refused(r),
+                next: emptied,
+            }
+        }
+        Check::Fine => {
+            let answer = fit::inner::fit_counts(
+                next,
+                stay,
+                moved,
+                move_half_ticks,
+                config,
+                scratch,
+                model,
+            );
+            EveningDone {
+                answer: Evening::Fitted(Counted { answer, invalid }),
+                next,
+            }
+        }
+    }
+}
+
+// The work of `calibrate_micro_price` on a record by value.
+pub fn calibrate_micro_price(
+    rec: Record,
+    stay: &mut [u64],
+    moved: &mut [u64],
+    move_half_ticks: &mut [i64],
+    config: MicroPriceConfig,
+    recording: &[u64],
+    start: u64,
+    end: u64,
+    scratch: &mut [f64],
+    model: &mut [u64],
+) -> EveningDone
+    ensures { λ r. ⌜ endEvening (r .answer) (memory (r .next) (now (stay .exit)) (now (moved .exit)) (now («move_half_ticks» .exit))) (now (model .exit)) (now (scratch .exit)) ≡ calibrated config (memory rec (now (stay .entry)) (now (moved .entry)) (now («move_half_ticks» .entry))) (now (recording .entry)) start end (now (model .entry)) (now (scratch .entry)) ⌝ }
+{
+    let k = check_evening(
+        recording,
+        start,
+        end,
+        config,
+        stay.len(),
+        moved.len(),
+        move_half_ticks.len(),
+        scratch.len(),
+        model.len(),
+    );
+    match k {
+        Check::Refused(r) => EveningDone {
+            answer: Evening::Refused(r),
+            next: rec,
+        },
+        Check::Fine => {
+            let part = recording::quotes_in(recording, start, end);
+            count_and_fit(
+                rec,
+                stay,
+                moved,
+                move_half_ticks,
+                config,
+                part,
+                scratch,
+                model,
+            )
+        }
+    }
+}

@@ -1,0 +1,6 @@
+pub mod Marked
+pub mod Judging
+pub mod Ends
+pub mod Known
+pub mod Opposites
+pub mod Models

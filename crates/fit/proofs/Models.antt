@@ -1,0 +1,289 @@
+-- The table that a fit writes: its rows are the fit's, those of mirrored states are opposite, and a Calibrated row lies inside the quotes. The numbers of a fit's refusals.
+use Prim.Native.Nat.{ℕ, zero, suc, _+_, _*_, _^_, _≤_, _<_}
+use mathlib.Core.Path.{_≡_, refl, sym, ap, subst, _∙_}
+use mathlib.Core.Bool.{Bool, true, false, not, cond}
+use mathlib.Core.List.{List}
+use mathlib.Core.Logic.{_⊎_, inl, inr}
+use native.Mathlib.Nat.{eq-or-lt-of-le, mul-comm, mul-le-mul, div-le-self}
+use native.Mathlib.Numerals.{add-one}
+use native.Mathlib.Omega.{arith}
+use borrow.Author.Tests.{not-false}
+use lib.Dec.{T, eqb}
+use lib.IntN.{ℤ}
+use lib.ListN.{length, replicate, length-replicate}
+use lib.Seq.{sets, length-sets}
+use lib.Ieee.{Float, nan, inf, fin, binary64, up, down, lt, le, fits}
+use lib.Ieee.Bits.{ofBits-fits}
+use lib.Ieee.Fits.{down-pos, add-fits, cond-fits}
+use lib.Ieee.Scale.{finite}
+use Rattle.floats.specs.Floats.{posZero, one, abs, half, halfSpread, clamp}
+use Rattle.floats.proofs.Signs.{abs-plus, plus-finite}
+use Rattle.floats.proofs.Whole.{half-exact}
+use Rattle.floats.proofs.Within.{value-finite, values-le}
+use Rattle.quotes.specs.Configuration.{states, valid, checkConfig}
+use Rattle.quotes.specs.Known.{Valid}
+use Rattle.quotes.specs.Refusals.{numberOf, refusal}
+use Rattle.quotes.specs.States.{mirrorOf, spreadIn}
+use Rattle.quotes.specs.declared.Check.{Check}
+use Rattle.quotes.specs.declared.Check.the-variants.{Fine, Refused}
+use Rattle.quotes.specs.declared.MicroPriceConfig.{MicroPriceConfig}
+use Rattle.quotes.specs.declared.Refusal.{Refusal}
+use Rattle.quotes.proofs.Refusals.{if-fine, first-fine}
+use Rattle.quotes.proofs.States.{mirror-below, mirror-keeps-spread}
+use Rattle.tally.specs.Rules.{Memory}
+use Rattle.calibrator.specs.Observe.{roomFor}
+use Rattle.calibrator.specs.declared.Previous.{Previous}
+use Rattle.model.specs.Rows.{rowWords, rowAt, plusZeros}
+use Rattle.model.specs.declared.StateEstimate.{StateEstimate}
+use Rattle.model.proofs.Rows.{Held, row-back, row-elsewhere}
+use Rattle.marking.specs.Below.{someTo}
+use Rattle.marking.specs.Marks.{Cells}
+use Rattle.marking.proofs.Below.{some-not}
+use Rattle.linear.specs.Arithmetic.{rounded}
+use Rattle.linear.specs.Elimination.{Answer, solved, singular, gaussJordan}
+use Rattle.linear.specs.Series.{Series, converged, notConverged, sumSeries, shareAfter, fallbackWithinMoves}
+use Rattle.system.specs.Rows.{used, systemOf}
+use Rattle.system.specs.Solution.{Solution, solution, unsolved, summedUp, solutionFrom, solutionOf}
+use Rattle.fit.specs.Estimates.{Given, estimate, representable}
+use Rattle.fit.specs.Fit.{Fit, fitted, refused, judgedRows, fitFrom, fitOf, givenOf, fitRefusal, tableOf, answerOf, fitUnless, fittedWith}
+use Rattle.fit.specs.Models.{RowsOpposite, Inside, RowOf, Written}
+use Rattle.fit.proofs.Judging.{length-table, table-more, table-whole}
+use Rattle.fit.proofs.Known.{Fittable, fit-known, mirrored-of}
+use Rattle.fit.proofs.Opposites.{plus-plus, finite-of, held-of, row-known, row-share, row-fallback, row-outside, row-inside, rows-opposite}
+
+-- ---- the solution
+
+-- a share: clamped, and binary64's
+record Clamped (x : Float) : Type 0 where
+  of : Float
+  is : x ≡ clamp of
+  fit : T (fits binary64 x)
+
+-- the shares are such, or the number is 16 to 19
+abbrev Kept : Solution → Type 0
+Kept (solution G1 sum share) = (i : ℕ) → Clamped (share i)
+Kept (unsolved k) = (16 ≤ numberOf (refusal k)) × (numberOf (refusal k) ≤ 19)
+
+clamp-fits : (x : Float) → T (fits binary64 x) → T (fits binary64 (clamp x))
+unfolding clamp
+clamp-fits x h =
+    cond-fits binary64 (lt x posZero) posZero (cond (lt one x) one x) (ofBits-fits binary64 0)
+    (cond-fits binary64 (lt one x) one x (ofBits-fits binary64 0x3ff0_0000_0000_0000) h)
+
+share-clamped : (n : ℕ) (B : ℕ → ℕ → Float) (F : ℕ → Float) (moves i : ℕ) → Clamped (fallbackWithinMoves rounded n B F (suc moves) i)
+share-clamped n B F moves i = record { of = shareAfter rounded n B F (suc moves) i; is = refl; fit = clamp-fits _ (unfold shareAfter in add-fits binary64 (F i) _) }
+
+summed-kept : (G1 share : ℕ → Float) (s : Series Float) → ((i : ℕ) → Clamped (share i)) → Kept (summedUp G1 share s)
+summed-kept G1 share (converged sum term) h = h
+summed-kept G1 share (notConverged sum term) h = (omega arith, omega arith)
+
+solution-kept : (rounds moves : ℕ) (C : Cells) (total : ℕ → ℤ) → Kept (solutionOf rounds (suc moves) C total)
+unfolding solutionOf
+solution-kept rounds moves C total = go (gaussJordan rounded (C .states) (systemOf C total))
+  where
+    go : (a : Answer Float) → Kept (solutionFrom (C .states) rounds (suc moves) a)
+    go (singular A) = (omega arith, omega arith)
+    go (solved A) = summed-kept (λ i. A i (C .states)) _ (sumSeries rounded (C .states) (λ i j. A i (C .states + 2 + j)) (λ i. A i (C .states)) rounds) (λ i. share-clamped (C .states) (λ i j. A i (C .states + 2 + j)) (λ i. A i (C .states + 1)) moves i)
+
+-- ---- the fit
+
+-- what a fit has found: estimates that can be represented, from a solution
+record Found (G : Given) (f : Fit) : Type 0 where
+  G1 : ℕ → Float
+  sum : ℕ → Float
+  share : ℕ → Float
+  is : f ≡ fitted (estimate G G1 sum share)
+  shares : (i : ℕ) → Clamped (share i)
+  held : (i : ℕ) → i < G .cells .states → representable (estimate G G1 sum share i) ≡ true
+
+-- or the number of its refusal
+abbrev Ended : Given → Fit → Type 0
+Ended G (fitted rows) = Found G (fitted rows)
+Ended G (refused k) = (16 ≤ numberOf (refusal k)) × (numberOf (refusal k) ≤ 19)
+
+judged-ended : (G : Given) (G1 sum share : ℕ → Float) → ((i : ℕ) → Clamped (share i)) → Ended G (judgedRows (G .cells .states) (estimate G G1 sum share))
+unfolding judgedRows
+judged-ended G G1 sum share h = go (someTo N (λ i. not (representable (rows i)))) refl (someTo N (λ i. eqb (rows i .status) 0))
+  where
+    N : ℕ
+    N = G .cells .states
+
+    rows : ℕ → StateEstimate
+    rows = estimate G G1 sum share
+
+    go : (s : Bool) → someTo N (λ i. not (representable (rows i))) ≡ s → (t : Bool) → Ended G (cond s (refused 19) (cond t (fitted rows) (refused 16)))
+    go true e t = (omega arith, omega arith)
+    go false e true =
+        record {
+          G1 = G1;
+          sum = sum;
+          share = share;
+          is = refl;
+          shares = h;
+          held = λ i b. not-false _ (some-not N (λ i. not (representable (rows i))) e i b);
+        }
+    go false e false = (omega arith, omega arith)
+
+fit-ended : (rounds moves : ℕ) (G : Given) → Ended G (fitOf rounds (suc moves) G)
+unfolding fitOf
+fit-ended rounds moves G = go (someTo (G .cells .states) (used (G .cells))) (solutionOf rounds (suc moves) (G .cells) (G .total)) (solution-kept rounds moves (G .cells) (G .total))
+  where
+    go : (u : Bool) (s : Solution) → Kept s → Ended G (cond u (fitFrom G s) (refused 16))
+    go true (solution G1 sum share) k = judged-ended G G1 sum share k
+    go true (unsolved n) k = k
+    go false s k = (omega arith, omega arith)
+
+-- ---- the table
+
+module _ (rows : ℕ → StateEstimate) (l : List ℕ) where
+  rows-set : (n : ℕ) → 7 * n ≤ length l → ((i : ℕ) → i < n → Held (rows i)) → (i : ℕ) → i < n → rowAt (sets l 0 (tableOf n rows)) i ≡ plusZeros (rows i)
+  rows-set zero r h i b = absurd (omega arith)
+  rows-set (suc n) r h i b =
+      ap (λ (t : List ℕ). rowAt t i) (ap (λ (k : ℕ). sets l 0 (tableOf k rows)) (sym (add-one n)) ∙ sym (table-more n n rows (rows n) l before refl refl))
+      ∙ go (λ g. rows-set n (omega arith) (λ k q. h k (omega arith)) i g) (eq-or-lt-of-le (let q : i ≤ n = omega arith in q))
+    where
+      before : List ℕ
+      before = sets l 0 (tableOf n rows)
+
+      go : (i < n → rowAt before i ≡ plusZeros (rows i)) → (i ≡ n) ⊎ (i < n) → rowAt (sets before (7 * n) (rowWords (rows n))) i ≡ plusZeros (rows i)
+      go earlier (inl e) =
+          subst (λ (k : ℕ). rowAt (sets before (7 * n) (rowWords (rows n))) k ≡ plusZeros (rows k)) (sym e)
+          (row-back before n (rows n) (h n (omega arith)) (omega (arith, length-sets l 0 (tableOf n rows))))
+      go earlier (inr g) = row-elsewhere before n i (rows n) (λ q. omega arith) ∙ earlier g
+
+table-rows : (n : ℕ) (rows : ℕ → StateEstimate) → ((i : ℕ) → i < n → Held (rows i)) → (i : ℕ) → i < n → rowAt (tableOf n rows) i ≡ plusZeros (rows i)
+table-rows n rows h i b =
+    let l : List ℕ = replicate (7 * n) 0 in
+    let long : length l ≡ 7 * n = length-replicate (7 * n) 0 in
+    ap (λ (t : List ℕ). rowAt t i) (sym (table-whole n rows l long))
+    ∙ rows-set rows l n (omega arith) h i b
+
+-- ---- the operation
+
+fine-parts : (k : Check) (n : ℕ) (f : Fit) (t : List ℕ) (l : List Float) → fitUnless k n f t l .answer ≡ Fine → (k ≡ Fine) × (answerOf f ≡ Fine)
+fine-parts Fine n f t l e = (refl, e)
+fine-parts (Refused r) n f t l e = absurd (let z : _≡_ {A = ℕ} 0 1 = cc in omega arith)
+
+found-of : (G : Given) (f : Fit) → Ended G f → answerOf f ≡ Fine → Found G f
+found-of G (fitted rows) e a = e
+found-of G (refused k) e a = absurd (let z : _≡_ {A = ℕ} 0 1 = cc in omega arith)
+
+-- tick × spread of a state is a float exactly
+width-less : (c : MicroPriceConfig) → Valid c → (i : ℕ) → i < states c → c .«tick_size» * spreadIn (c .«imbalance_buckets») i < 2 ^ 53
+width-less c v i h =
+    let s : spreadIn (c .«imbalance_buckets») i ≤ 256 = omega (arith, div-le-self i (c .«imbalance_buckets»), v .states-most) in
+    let w : c .«tick_size» * spreadIn (c .«imbalance_buckets») i ≤ 1000000000 * 256 = mul-le-mul (v .tick-most) s in
+    omega arith
+
+inside-of : (c : MicroPriceConfig) (i : ℕ) (x : Float) → c .«tick_size» * spreadIn (c .«imbalance_buckets») i < 2 ^ 53 → T (finite x) → T (le (abs x) (halfSpread (c .«tick_size») (spreadIn (c .«imbalance_buckets») i))) → Inside c i x
+unfolding abs
+inside-of c i nan w f h = absurd f
+inside-of c i (inf s) w f h = absurd f
+inside-of c i (fin s m d) w f h =
+    let width = c .«tick_size» * spreadIn (c .«imbalance_buckets») i in
+    record {
+      half-most = h;
+      num = m * up d;
+      den = down d;
+      den-some = down-pos d;
+      size = (refl, refl);
+      inside = rw (mul-comm 2 (m * up d)) (values-le (fin false m d) (half width) (m * up d) (down d) width 2 (refl, refl) (half-exact width w) h);
+    }
+
+-- a fit with any number of rounds, of the share at least one
+module _ (rounds moves : ℕ) (c : MicroPriceConfig) (m : Memory Previous) (t₀ : List ℕ) (l : List Float) where
+  abbrev G : Given
+  G = givenOf c (m .counts)
+
+  abbrev fit : Fit
+  fit = fitOf rounds (suc moves) G
+
+  abbrev table : List ℕ
+  table = fittedWith rounds (suc moves) c m t₀ l .model
+
+  module _ (fine : fittedWith rounds (suc moves) c m t₀ l .answer ≡ Fine) where
+    parts : (fitRefusal c m (length l) (length t₀) ≡ Fine) × (answerOf fit ≡ Fine)
+    parts = fine-parts (fitRefusal c m (length l) (length t₀)) (states c) fit t₀ l fine
+
+    -- the configuration is valid
+    pub fit-valid : valid c ≡ true
+    fit-valid =
+        let room = first-fine (roomFor c m) _ (parts .0) .0 in
+        not-false (valid c) (if-fine (not (valid c)) 1 (first-fine (checkConfig c) _ room .0))
+
+    known : Fittable c m (length l) (length t₀)
+    known = fit-known c m (length l) (length t₀) (parts .0)
+
+    found : Found G fit
+    found = found-of G fit (fit-ended rounds moves G) (parts .1)
+
+    abbrev rows : ℕ → StateEstimate
+    rows = estimate G (found .G1) (found .sum) (found .share)
+
+    table-is : table ≡ tableOf (states c) rows
+    table-is = λ j. fitUnless (parts .0 j) (states c) (found .is j) t₀ l .model
+
+    rows-are : (i : ℕ) → i < states c → rowAt table i ≡ plusZeros (rows i)
+    rows-are i h =
+        ap (λ (t : List ℕ). rowAt t i) table-is
+        ∙ table-rows (states c) rows (λ k b. held-of G (found .G1) (found .sum) (found .share) k (found .shares k .fit)) i h
+
+    row-of : (i : ℕ) → i < states c → RowOf c i (rowAt table i)
+    row-of i h =
+        let k = row-known G (found .G1) (found .sum) (found .share) i in
+        let f = finite-of (rows i) (found .held i h) in
+        let x = found .shares i in
+        let s = row-share G (found .G1) (found .sum) (found .share) i (x .of) (x .is) (x .fit) (found .held i h) in
+        subst (RowOf c i) (sym (rows-are i h))
+        (record {
+          bucket-is = k .0;
+          spread-is = k .1;
+          status-known = k .2;
+          first-finite = plus-finite _ (f .first);
+          final-finite = plus-finite _ (f .final);
+          share-finite = plus-finite _ (f .share);
+          first-plus = plus-plus (rows i .«first_adjustment»);
+          final-plus = plus-plus (rows i .adjustment);
+          share-plus = plus-plus (rows i .«fallback_within_moves»);
+          share-least = s .0;
+          share-most = s .1;
+          share-fallback = row-fallback G (found .G1) (found .sum) (found .share) i;
+          outside = λ e. subst (λ (z : Float). T (lt (halfSpread (c .«tick_size») (spreadIn (c .«imbalance_buckets») i)) z)) (sym (abs-plus (rows i .adjustment))) (subst T (sym (row-outside G (found .G1) (found .sum) (found .share) i e)) tt);
+        })
+
+    pub table-long : length table ≡ 7 * states c
+    table-long = ap length table-is ∙ length-table (states c) rows
+
+    pub fit-written : Written c fit table
+    fit-written = record { rows = rows; fit-is = found .is; table-is = table-is; rows-are = rows-are; row-of = row-of }
+
+    -- mirrored states: the same status and observations, opposite adjustments, first and final
+    pub fit-mirrors : (i : ℕ) → i < states c → RowsOpposite (rowAt table i) (rowAt table (mirrorOf (c .«imbalance_buckets») i))
+    fit-mirrors i h =
+        let n = c .«imbalance_buckets» in
+        let v = known .conf in
+        let some : 1 ≤ n = omega (arith, v .n-least) in
+        let tick = value-finite (half (c .«tick_size»)) false (c .«tick_size») 2 (half-exact (c .«tick_size») (omega (arith, v .tick-most))) in
+        let o = rows-opposite G (found .G1) (found .sum) (found .share) (mirrored-of known) tick i h (mirror-keeps-spread n i some) (found .held i h) in
+        subst (λ (e : StateEstimate). RowsOpposite e (rowAt table (mirrorOf n i))) (sym (rows-are i h))
+        (subst (λ (e : StateEstimate). RowsOpposite (plusZeros (rows i)) e) (sym (rows-are (mirrorOf n i) (mirror-below n i some (c .«spread_states») h))) o)
+
+    -- a Calibrated state: its adjustment is in size at most half the spread
+    pub calibrated-inside : (i : ℕ) → i < states c → rowAt table i .status ≡ 0 → Inside c i (rowAt table i .adjustment)
+    calibrated-inside i h z =
+        let w = width-less c (known .conf) i h in
+        let width = c .«tick_size» * spreadIn (c .«imbalance_buckets») i in
+        let e = rows-are i h in
+        let k = row-inside G (found .G1) (found .sum) (found .share) i (found .held i h) (value-finite (half width) false width 2 (half-exact width w)) (sym (ap (λ (x : StateEstimate). x .status) e) ∙ z) in
+        inside-of c i (rowAt table i .adjustment) w (row-of i h .final-finite)
+        (subst (λ (x : Float). T (le x (half width))) (sym (ap (λ (x : StateEstimate). abs (x .adjustment)) e ∙ abs-plus (rows i .adjustment))) k)
+
+  -- refused after the checks: 16 to 19
+  pub fit-numbers : (r : Refusal) → fitRefusal c m (length l) (length t₀) ≡ Fine → fittedWith rounds (suc moves) c m t₀ l .answer ≡ Refused r → (16 ≤ numberOf r) × (numberOf r ≤ 19)
+  fit-numbers r k e = go fit (fit-ended rounds moves G) (ap (λ (x : Check). fitUnless x (states c) fit t₀ l .answer) (sym k) ∙ e)
+    where
+      go : (f : Fit) → Ended G f → answerOf f ≡ Refused r → (16 ≤ numberOf r) × (numberOf r ≤ 19)
+      go (fitted rows) d a = absurd (let z : _≡_ {A = ℕ} 0 1 = cc in omega arith)
+      go (refused n) d a =
+          let q : refusal n ≡ r = cc in
+          subst (λ (x : Refusal). (16 ≤ numberOf x) × (numberOf x ≤ 19)) q d

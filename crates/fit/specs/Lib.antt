@@ -1,0 +1,4 @@
+pub mod Estimates
+pub mod Fit
+pub mod Models
+pub mod Steps

@@ -1,0 +1,412 @@
+// Inner functions: for the crates above, not for users. Where one has a `requires`, each caller proves it.
+use calibrator::Record;
+use model::StateEstimate;
+use quotes::Check;
+use quotes::MicroPriceConfig;
+use quotes::Refusal;
+ghost use mathlib.Core.Path.{_≡_};
+ghost use mathlib.Core.Bool.{true, cond};
+ghost use Prim.Native.Nat.{ℕ, _+_, _*_, _<_, _≤_};
+ghost use lib.Dec.{eqb};
+ghost use lib.IntN.{ℤ};
+ghost use lib.ListN.{length, getD, replicate};
+ghost use mathlib.Core.List.{List};
+ghost use lib.Seq.{sets};
+ghost use lib.Ieee.{Float};
+ghost use Rattle.floats.specs.Floats.{posZero, one};
+ghost use Rattle.quotes.specs.Configuration.{states};
+ghost use Rattle.model.specs.Status.{statusNumber};
+ghost use Rattle.model.specs.declared.StateStatus.{StateStatus};
+ghost use Rattle.marking.specs.Below.{someTo};
+ghost use Rattle.marking.specs.Marks.{cellsOf};
+ghost use Rattle.linear.specs.Scratch.{from, sumAt, shareAt, solvedG1, Scratch};
+ghost use Rattle.system.specs.Rows.{isCalibrated, used};
+ghost use Rattle.system.specs.Tables.{Exact, Marks};
+ghost use Rattle.calibrator.specs.Record.{memory};
+ghost use Rattle.fit.specs.Estimates.{adjusted, judged, estimateOf, solvedAt, small, representable};
+ghost use Rattle.fit.specs.Steps.{givenIn, Usable, rowsIn, FitEnds};
+ghost use Rattle.fit.specs.Fit.{judgedRows, fitOf, wrongRoom, fitRefusal, tableOf, answerOf, modelAfter, endFit, fittedWith, fitCounts};
+
+// What the solution has for a state and for its mirror.
+pub struct Solved {
+    pub first_own: f64,
+    pub first_mirrored: f64,
+    pub own: f64,
+    pub mirrored: f64,
+    pub share: f64,
+}
+
+fn adjust(tick: u64, own: f64, mirrored: f64) -> f64
+    requires { ⌜ tick ≤ 1000000000 ⌝ }
+    ensures { λ r. ⌜ r ≡ adjusted tick own mirrored ⌝ }
+{
+    (own - mirrored) / 2.0 * floats::inner::half_tick(tick)
+}
+
+// The status, by the number of the mark.
+fn judge_status(mark: u64, half: f64, adjustment: f64) -> u64
+    ensures { λ r. ⌜ ((m : StateStatus) → mark ≡ statusNumber m → r ≡ statusNumber (judged m half adjustment)) ⌝ }
+{
+    if mark != 0 {
+        return mark;
+    }
+    if half < floats::abs(adjustment) {
+        return 3;
+    }
+    0
+}
+
+// The share, by the number of the mark.
+fn share_of(mark: u64, share: f64) -> f64
+    ensures { λ r. ⌜ ((m : StateStatus) → mark ≡ statusNumber m → r ≡ cond (isCalibrated m) share one) ⌝ }
+{
+    if mark == 0 {
+        return share;
+    }
+    1.0
+}
+
+fn estimate_of(
+    tick: u64,
+    bucket: u64,
+    spread: u64,
+    mark: u64,
+    observed: u64,
+    s: Solved,
+) -> StateEstimate
+    requires { ⌜ (tick ≤ 1000000000) × (spread ≤ 256) ⌝ }
+    ensures { λ r. ⌜ ((m : StateStatus) → mark ≡ statusNumber m → r ≡ estimateOf tick bucket spread m observed s) ⌝ }
+{
+    let adjustment = adjust(tick, s.own, s.mirrored);
+    let half = floats::inner::half_spread(tick, spread);
+    StateEstimate {
+        imbalance_bucket: bucket,
+        spread_ticks: spread,
+        observations: observed,
+        first_adjustment: adjust(tick, s.first_own, s.first_mirrored),
+        adjustment: adjustment,
+        fallback_within_moves: share_of(mark, s.share),
+        status: judge_status(mark, half, adjustment),
+    }
+}
+
+// Finite and of size below 2^96.
+fn is_small(x: f64) -> bool
+    ensures { λ r. ⌜ r ≡ small x ⌝ }
+{
+    floats::abs(x) < 79228162514264337593543950336.0
+}
+
+fn is_representable(e: StateEstimate) -> bool
+    ensures { λ r. ⌜ r ≡ representable e ⌝ }
+{
+    is_small(e.first_adjustment) & (is_small(e.adjustment) & is_small(e.fallback_within_moves))
+}
+
+// What scratch has for state i and its mirror m.
+fn solved_in(scratch: &[f64], n: usize, i: usize, m: usize) -> Solved
+    requires { ⌜ Scratch n (now scratch) × (i < n) × (m < n) ⌝ }
+    ensures { λ r. ⌜ r ≡ solvedAt (λ k. m) (solvedG1 n (now (scratch .entry))) (from (sumAt n) (now (scratch .entry))) (from (shareAt n) (now (scratch .entry))) i ⌝ }
+{
+    let w = 2 * n + 2;
+    let sum = n * w;
+    let first_own = scratch[i * w + n];
+    let first_mirrored = scratch[m * w + n];
+    let own = scratch[sum + i];
+    let mirrored = scratch[sum + m];
+    let share = scratch[sum + n + i];
+    Solved {
+        first_own,
+        first_mirrored,
+        own,
+        mirrored,
+        share,
+    }
+}
+
+// The estimate of state i, from what stands in scratch.
+fn state_estimate(
+    n: usize,
+    buckets: u64,
+    tick: u64,
+    stay: &[u64],
+    moved: &[u64],
+    marks: &[u64],
+    mirrors: &[usize],
+    scratch: &[f64],
+    i: usize,
+) -> StateEstimate
+    requires { ⌜ Usable n buckets tick (now stay) (now moved) (now mirrors) × (n ≤ length (now marks)) × Scratch n (now scratch) × (i < n) ⌝ }
+    ensures { λ r. ⌜ ((least : ℕ) (totals : List ℤ) → Marks (cellsOf n least (now (stay .entry)) (now (moved .entry))) (now (marks .entry)) → r ≡ rowsIn n (givenIn n buckets tick least (now (stay .entry)) (now (moved .entry)) totals (now (mirrors .entry))) (now (scratch .entry)) i) ⌝ }
+{
+    let solved = solved_in(scratch, n, i, mirrors[i]);
+    let observed = marking::observations_of(stay, moved, n, i);
+    let state = i as u64;
+    estimate_of(
+        tick,
+        state % buckets + 1,
+        state / buckets + 1,
+        marks[i],
+        observed,
+        solved,
+    )
+}
+
+// 19 where a float of a state cannot be represented, 16 where no Calibrated state remains.
+fn judge_estimates(
+    n: usize,
+    buckets: u64,
+    tick: u64,
+    stay: &[u64],
+    moved: &[u64],
+    marks: &[u64],
+    mirrors: &[usize],
+    scratch: &[f64],
+) -> Check
+    requires { ⌜ Usable n buckets tick (now stay) (now moved) (now mirrors) × (n ≤ length (now marks)) × Scratch n (now scratch) ⌝ }
+    ensures { λ r. ⌜ ((least : ℕ) (totals : List ℤ) → Marks (cellsOf n least (now (stay .entry)) (now (moved .entry))) (now (marks .entry)) → r ≡ answerOf (judgedRows n (rowsIn n (givenIn n buckets tick least (now (stay .entry)) (now (moved .entry)) totals (now (mirrors .entry))) (now (scratch .entry))))) ⌝ }
+{
+    let mut found = false;
+    let mut i: usize = 0;
+    while i < n {
+        let e = state_estimate(n, buckets, tick, stay, moved, marks, mirrors, scratch, i);
+        if !is_representable(e) {
+            return Check::Refused(Refusal::Unrepresentable);
+        }
+        found = found | (e.status == 0);
+        i += 1;
+    }
+    if !found {
+        return Check::Refused(Refusal::NoCalibratedState);
+    }
+    Check::Fine
+}
+
+// Writes the rows of the model table.
+fn write_estimates(
+    n: usize,
+    buckets: u64,
+    tick: u64,
+    stay: &[u64],
+    moved: &[u64],
+    marks: &[u64],
+    mirrors: &[usize],
+    scratch: &[f64],
+    model: &mut [u64],
+)
+    requires { ⌜ Usable n buckets tick (now stay) (now moved) (now mirrors) × (n ≤ length (now marks)) × Scratch n (now scratch) × (length (now model) ≡ 7 * n) ⌝ }
+    ensures { λ _. ⌜ ((least : ℕ) (totals : List ℤ) → Marks (cellsOf n least (now (stay .entry)) (now (moved .entry))) (now (marks .entry)) → now (model .exit) ≡ tableOf n (rowsIn n (givenIn n buckets tick least (now (stay .entry)) (now (moved .entry)) totals (now (mirrors .entry))) (now (scratch .entry)))) ⌝ }
+{
+    let mut i: usize = 0;
+    while i < n {
+        let e = state_estimate(n, buckets, tick, stay, moved, marks, mirrors, scratch, i);
+        model::inner::write_row(model, i, e);
+        i += 1;
+    }
+}
+
+// Whether a state is marked Calibrated.
+fn has_calibrated(marks: &[u64], n: usize) -> bool
+    requires { ⌜ n ≤ length (now marks) ⌝ }
+    ensures { λ r. ⌜ r ≡ someTo n (λ i. eqb (getD (now (marks .entry)) i 0) 0) ⌝ }
+{
+    let mut i: usize = 0;
+    while i < n {
+        if marks[i] == 0 {
+            return true;
+        }
+        i += 1;
+    }
+    false
+}
+
+// The fit of n marked states, one of them Calibrated. It leaves its work in scratch.
+fn fit_marked(
+    n: usize,
+    buckets: u64,
+    tick: u64,
+    stay: &[u64],
+    moved: &[u64],
+    totals: &[i64],
+    marks: &[u64],
+    mirrors: &[usize],
+    rounds: usize,
+    moves: usize,
+    scratch: &mut [f64],
+    model: &mut [u64],
+) -> Check
+    requires { ⌜ Usable n buckets tick (now stay) (now moved) (now mirrors) × Exact n (now stay) (now moved) (now totals) × (n ≤ length (now marks)) × Scratch n (now scratch) × (length (now model) ≡ 7 * n) ⌝ }
+    ensures { λ r. ⌜ ((least : ℕ) → Marks (cellsOf n least (now (stay .entry)) (now (moved .entry))) (now (marks .entry)) → someTo n (used (cellsOf n least (now (stay .entry)) (now (moved .entry)))) ≡ true → FitEnds n (fitOf rounds moves (givenIn n buckets tick least (now (stay .entry)) (now (moved .entry)) (now (totals .entry)) (now (mirrors .entry)))) (now (model .entry)) r (now (model .exit))) ⌝ }
+{
+    let solved = system::solve_system(stay, moved, totals, n, marks, rounds, moves, scratch);
+    let Check::Fine = solved else {
+        return solved;
+    };
+    let judged = judge_estimates(n, buckets, tick, stay, moved, marks, mirrors, scratch);
+    let Check::Fine = judged else {
+        return judged;
+    };
+    write_estimates(
+        n,
+        buckets,
+        tick,
+        stay,
+        moved,
+        marks,
+        mirrors,
+        scratch,
+        model,
+    );
+    Check::Fine
+}
+
+// The fit of n states. It leaves its work in scratch.
+fn fit_states(
+    n: usize,
+    buckets: u64,
+    tick: u64,
+    least: u64,
+    stay: &[u64],
+    moved: &[u64],
+    totals: &[i64],
+    mirrors: &[usize],
+    rounds: usize,
+    moves: usize,
+    scratch: &mut [f64],
+    model: &mut [u64],
+) -> Check
+    requires { ⌜ Usable n buckets tick (now stay) (now moved) (now mirrors) × Exact n (now stay) (now moved) (now totals) × Scratch n (now scratch) × (length (now model) ≡ 7 * n) ⌝ }
+    ensures { λ r. ⌜ FitEnds n (fitOf rounds moves (givenIn n buckets tick least (now (stay .entry)) (now (moved .entry)) (now (totals .entry)) (now (mirrors .entry)))) (now (model .entry)) r (now (model .exit)) ⌝ }
+{
+    let mut marks = [1u64; 256];
+    marking::mark_no_price_move(stay, moved, n, least, &mut marks);
+    if !has_calibrated(&marks, n) {
+        return Check::Refused(Refusal::NoCalibratedState);
+    }
+    fit_marked(
+        n,
+        buckets,
+        tick,
+        stay,
+        moved,
+        totals,
+        &marks,
+        mirrors,
+        rounds,
+        moves,
+        scratch,
+        model,
+    )
+}
+
+fn clear(scratch: &mut [f64])
+    ensures { λ r. ⌜ now (scratch .exit) ≡ replicate (length (now (scratch .entry))) posZero ⌝ }
+{
+    let mut i: usize = 0;
+    while i < scratch.len() {
+        scratch[i] = 0.0;
+        i += 1;
+    }
+}
+
+// Whether scratch or the model table has a wrong length.
+pub fn wrong_room(n: usize, scratch: usize, model: usize) -> bool
+    requires { ⌜ n ≤ 256 ⌝ }
+    ensures { λ r. ⌜ r ≡ wrongRoom n scratch model ⌝ }
+{
+    (scratch != n * (2 * n + 10)) | (model != 7 * n)
+}
+
+// 1, 7, then 6, 9, 10, 11.
+fn check_fit(
+    rec: Record,
+    stay: &[u64],
+    moved: &[u64],
+    totals: &[i64],
+    c: MicroPriceConfig,
+    scratch: usize,
+    model: usize,
+) -> Check
+    ensures { λ r. ⌜ r ≡ fitRefusal c (memory rec (now (stay .entry)) (now (moved .entry)) (now (totals .entry))) scratch model ⌝ }
+{
+    let room = calibrator::inner::check_room(c, stay.len(), moved.len(), totals.len());
+    let Check::Fine = room else {
+        return room;
+    };
+    if wrong_room(quotes::inner::state_count(c), scratch, model) {
+        return Check::Refused(Refusal::SliceLength);
+    }
+    let counters = rec.counters;
+    mirrored::check_mirrored_counts(c, counters, stay, moved, totals)
+}
+
+// The fit of a record by value, with at most so many rounds of the series, and so many of the share.
+pub fn fit_counts_with(
+    rec: Record,
+    stay: &[u64],
+    moved: &[u64],
+    move_half_ticks: &[i64],
+    config: MicroPriceConfig,
+    rounds: usize,
+    moves: usize,
+    scratch: &mut [f64],
+    model: &mut [u64],
+) -> Check
+    ensures { λ r. ⌜ endFit r (now (model .exit)) (now (scratch .exit)) ≡ fittedWith rounds moves config (memory rec (now (stay .entry)) (now (moved .entry)) (now («move_half_ticks» .entry))) (now (model .entry)) (now (scratch .entry)) ⌝ }
+{
+    let k = check_fit(
+        rec,
+        stay,
+        moved,
+        move_half_ticks,
+        config,
+        scratch.len(),
+        model.len(),
+    );
+    let Check::Fine = k else {
+        return k;
+    };
+    let n = quotes::inner::state_count(config);
+    let mirrors = mirrored::mirrors_of(config);
+    let answer = fit_states(
+        n,
+        config.imbalance_buckets,
+        config.tick_size,
+        config.min_state_observations,
+        stay,
+        moved,
+        move_half_ticks,
+        &mirrors,
+        rounds,
+        moves,
+        scratch,
+        model,
+    );
+    clear(scratch);
+    answer
+}
+
+// The work of `fit_counts` on a record by value.
+pub fn fit_counts(
+    rec: Record,
+    stay: &[u64],
+    moved: &[u64],
+    move_half_ticks: &[i64],
+    config: MicroPriceConfig,
+    scratch: &mut [f64],
+    model: &mut [u64],
+) -> Check
+    ensures { λ r. ⌜ endFit r (now (model .exit)) (now (scratch .exit)) ≡ fitCounts config (memory rec (now (stay .entry)) (now (moved .entry)) (now («move_half_ticks» .entry))) (now (model .entry)) (now (scratch .entry)) ⌝ }
+{
+    fit_counts_with(
+        rec,
+        stay,
+        moved,
+        move_half_ticks,
+        config,
+        10000,
+        10,
+        scratch,
+        model,
+    )
+}

@@ -1,0 +1,25 @@
+// The fit of a model to the counts (document 01, "The fit"). The record, the tables, the scratch and the model table are lent.
+use calibrator::Record;
+use quotes::Check;
+use quotes::MicroPriceConfig;
+
+pub mod inner;
+
+ghost use mathlib.Core.Path.{_≡_};
+ghost use Rattle.calibrator.specs.Record.{memory};
+ghost use Rattle.fit.specs.Fit.{endFit, fitCounts};
+
+// Fits the model: writes a row of seven words for each state. Scratch is N × (2 N + 10) floats.
+pub fn fit_counts(
+    rec: &Record,
+    stay: &[u64],
+    moved: &[u64],
+    move_half_ticks: &[i64],
+    config: MicroPriceConfig,
+    scratch: &mut [f64],
+    model: &mut [u64],
+) -> Check
+    ensures { λ r. ⌜ endFit r (now (model .exit)) (now (scratch .exit)) ≡ fitCounts config (memory (now (rec .entry)) (now (stay .entry)) (now (moved .entry)) (now («move_half_ticks» .entry))) (now (model .entry)) (now (scratch .entry)) ⌝ }
+{
+    inner::fit_counts(*rec, stay, moved, move_half_ticks, config, scratch, model)
+}

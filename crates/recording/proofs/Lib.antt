@@ -1,0 +1,5 @@
+pub mod Recordings
+pub mod Windows
+pub mod Parts
+pub mod Runs
+pub mod Histories

@@ -1,0 +1,3 @@
+pub mod Recording
+pub mod Window
+pub mod Observe

@@ -1,0 +1,9 @@
+pub mod Finite
+pub mod Halves
+pub mod Answers
+pub mod Usable
+pub mod Within
+pub mod Exchanged
+pub mod Checked
+pub mod Numbered
+pub mod Printed

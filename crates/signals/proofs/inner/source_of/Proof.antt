@@ -1,0 +1,16 @@
+use borrow.Author.Needs.{needs}
+use borrow.Author.Tests.{eq-eqb, ne-eqb}
+use Rattle.signals.proofs.inner.source_of.Statement.{statement}
+use Rattle.signals.proofs.inner.source_of.Tie as tie
+
+returns : tie.Need-returns
+returns c = rw (eq-eqb _ _ (c .if1 .taken))
+
+status-of-requires : tie.Need-status-of-requires
+status-of-requires c κs = search needs
+
+returns-2 : tie.Need-returns-2
+returns-2 c = rw (c .status-of .ensures, ne-eqb _ _ (c .before .if1 .left))
+
+pub source-of-spec : {M : Type 1} → statement M
+source-of-spec = tie.close (tie.spec returns status-of-requires returns-2)

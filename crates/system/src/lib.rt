@@ -1,0 +1,173 @@
+// The rows of the fit and the solution of its system (document 01, "The fit").
+// Inner functions: for the crates above, not for users. Where one has a `requires`, each caller proves it.
+use linear::Solve;
+use linear::Sum;
+use quotes::Check;
+use quotes::Refusal;
+ghost use mathlib.Core.Path.{_≡_};
+ghost use mathlib.Core.Bool.{true, cond, not};
+ghost use Prim.Native.Nat.{ℕ, _+_, _*_, _<_, _≤_, _^_};
+ghost use lib.Dec.{eqb};
+ghost use lib.IntN.{ℤ, pos};
+ghost use lib.ListN.{length, getD};
+ghost use lib.Ieee.{binary64, inFloat, sub, neg};
+ghost use Rattle.floats.specs.Floats.{one, posZero};
+ghost use Rattle.marking.specs.Below.{someTo};
+ghost use Rattle.model.specs.Status.{statusNumber};
+ghost use Rattle.marking.specs.Marks.{cellOf, cellsOf, markOf};
+ghost use Rattle.linear.specs.Scratch.{Scratch, Becomes, width};
+ghost use Rattle.linear.specs.Loops.{Filled};
+ghost use Rattle.system.specs.Rows.{used, part, Q, T, K, fallback, systemOf};
+ghost use Rattle.system.specs.Tables.{totalOf, Exact, Marks};
+ghost use Rattle.system.specs.Solution.{solutionOf, SolvedIn};
+
+// A count by the row's observations, or zero.
+fn part_of(count: u64, observed: u64, is_used: bool) -> f64
+    requires { ⌜ (count ≤ 2 ^ 53) × (observed ≤ 2 ^ 53) ⌝ }
+    ensures { λ r. ⌜ r ≡ part «is_used» (pos count) observed ⌝ }
+{
+    if is_used {
+        return floats::inner::from_u64(count) / floats::inner::from_u64(observed);
+    }
+    0.0
+}
+
+// The move total of x by its observations, or zero.
+fn total_part(totals: &[i64], x: usize, observed: u64, is_used: bool) -> f64
+    requires { ⌜ (x < length (now totals)) × (inFloat binary64 (totalOf (now totals) x) ≡ true) × (observed ≤ 2 ^ 53) ⌝ }
+    ensures { λ r. ⌜ r ≡ part «is_used» (totalOf (now (totals .entry)) x) observed ⌝ }
+{
+    if is_used {
+        return floats::inner::from_i64(totals[x]) / floats::inner::from_u64(observed);
+    }
+    0.0
+}
+
+// A cell of 1 − Q.
+fn less_stay(on_diagonal: bool, q: f64) -> f64
+    ensures { λ r. ⌜ r ≡ cond «on_diagonal» (sub binary64 one q) (neg q) ⌝ }
+{
+    if on_diagonal {
+        return 1.0 - q;
+    }
+    -q
+}
+
+// 1 for a fallback state, else 0.
+fn fallback_of(is_used: bool) -> f64
+    ensures { λ r. ⌜ r ≡ cond «is_used» posZero one ⌝ }
+{
+    if is_used {
+        return 0.0;
+    }
+    1.0
+}
+
+// 1 − Q of row x, into n places from `to` on.
+fn fill_stay(
+    stay: &[u64],
+    n: usize,
+    x: usize,
+    observed: u64,
+    is_used: bool,
+    scratch: &mut [f64],
+    to: usize,
+)
+    requires { ⌜ (x * n + n ≤ length (now stay)) × ((k : ℕ) → k < n → cellOf n (now stay) x k ≤ 2 ^ 53) × (observed ≤ 2 ^ 53) × (to + n ≤ length (now scratch)) ⌝ }
+    ensures { λ _. ⌜ Filled to n (λ k. let q = part «is_used» (pos (cellOf n (now (stay .entry)) x k)) observed in cond (eqb x k) (sub binary64 one q) (neg q)) (now (scratch .entry)) (now (scratch .exit)) ⌝ }
+{
+    let row = x * n;
+    let mut k: usize = 0;
+    while k < n {
+        let q = part_of(stay[row + k], observed, is_used);
+        scratch[to + k] = less_stay(x == k, q);
+        k += 1;
+    }
+}
+
+// T of row x, into n places from `to` on.
+fn fill_moved(
+    moved: &[u64],
+    n: usize,
+    x: usize,
+    observed: u64,
+    is_used: bool,
+    scratch: &mut [f64],
+    to: usize,
+)
+    requires { ⌜ (x * n + n ≤ length (now moved)) × ((k : ℕ) → k < n → cellOf n (now moved) x k ≤ 2 ^ 53) × (observed ≤ 2 ^ 53) × (to + n ≤ length (now scratch)) ⌝ }
+    ensures { λ _. ⌜ Filled to n (λ k. part «is_used» (pos (cellOf n (now (moved .entry)) x k)) observed) (now (scratch .entry)) (now (scratch .exit)) ⌝ }
+{
+    let row = x * n;
+    let mut k: usize = 0;
+    while k < n {
+        scratch[to + k] = part_of(moved[row + k], observed, is_used);
+        k += 1;
+    }
+}
+
+// Row x of the system, by the number of its mark.
+fn fill_row(
+    stay: &[u64],
+    moved: &[u64],
+    totals: &[i64],
+    n: usize,
+    mark: u64,
+    x: usize,
+    scratch: &mut [f64],
+)
+    requires { ⌜ Exact n (now stay) (now moved) (now totals) × (x < n) × (n * width n ≤ length (now scratch)) ⌝ }
+    ensures { λ _. ⌜ ((least : ℕ) → mark ≡ statusNumber (markOf (cellsOf n least (now (stay .entry)) (now (moved .entry))) x) → Filled (x * width n) (width n) (systemOf (cellsOf n least (now (stay .entry)) (now (moved .entry))) (totalOf (now (totals .entry))) x) (now (scratch .entry)) (now (scratch .exit))) ⌝ }
+{
+    let observed = marking::observations_of(stay, moved, n, x);
+    let is_used = mark == 0;
+    let start = x * (2 * n + 2);
+    fill_stay(stay, n, x, observed, is_used, scratch, start);
+    scratch[start + n] = total_part(totals, x, observed, is_used);
+    scratch[start + (n + 1)] = fallback_of(is_used);
+    fill_moved(moved, n, x, observed, is_used, scratch, start + (n + 2));
+}
+
+// The system, in n rows of 2 n + 2.
+fn fill_system(
+    stay: &[u64],
+    moved: &[u64],
+    totals: &[i64],
+    n: usize,
+    marks: &[u64],
+    scratch: &mut [f64],
+)
+    requires { ⌜ Exact n (now stay) (now moved) (now totals) × (n ≤ length (now marks)) × (n * width n ≤ length (now scratch)) ⌝ }
+    ensures { λ _. ⌜ ((least : ℕ) → Marks (cellsOf n least (now (stay .entry)) (now (moved .entry))) (now (marks .entry)) → Becomes n (width n) (systemOf (cellsOf n least (now (stay .entry)) (now (moved .entry))) (totalOf (now (totals .entry)))) (now (scratch .entry)) (now (scratch .exit))) ⌝ }
+{
+    let mut x: usize = 0;
+    while x < n {
+        fill_row(stay, moved, totals, n, marks[x], x, scratch);
+        x += 1;
+    }
+}
+
+// Fills the system, solves it, sums the series and takes the share, in scratch.
+pub fn solve_system(
+    stay: &[u64],
+    moved: &[u64],
+    totals: &[i64],
+    n: usize,
+    marks: &[u64],
+    rounds: usize,
+    moves: usize,
+    scratch: &mut [f64],
+) -> Check
+    requires { ⌜ Exact n (now stay) (now moved) (now totals) × (n ≤ length (now marks)) × Scratch n (now scratch) ⌝ }
+    ensures { λ r. ⌜ ((least : ℕ) → Marks (cellsOf n least (now (stay .entry)) (now (moved .entry))) (now (marks .entry)) → SolvedIn n (solutionOf rounds moves (cellsOf n least (now (stay .entry)) (now (moved .entry))) (totalOf (now (totals .entry)))) r (now (scratch .exit))) ⌝ }
+{
+    fill_system(stay, moved, totals, n, marks, scratch);
+    let Solve::Solved = linear::inner::gauss_jordan(scratch, n, 2 * n + 2) else {
+        return Check::Refused(Refusal::SingularTransitions);
+    };
+    let Sum::Converged = linear::inner::sum_series(scratch, n, rounds) else {
+        return Check::Refused(Refusal::NotConverged);
+    };
+    linear::inner::fallback_within_moves(scratch, n, moves);
+    Check::Fine
+}

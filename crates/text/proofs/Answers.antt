@@ -1,0 +1,119 @@
+-- From the numbers of a text to the answer of `read_text`.
+use Prim.Native.Nat.{ℕ, zero, suc, _+_, _-_, _/_, _%_, _≤_, _<_}
+use mathlib.Core.Path.{_≡_, refl, sym, _∙_, ap}
+use mathlib.Core.Bool.{Bool, true, false, cond, _&&_}
+use mathlib.Core.List.{List, [], _∷_}
+use native.Mathlib.Omega.{arith}
+use lib.Dec.{leb, eqb}
+use lib.ListN.{length, getD, drop, set, length-set}
+use lib.Seq.{sets, getD-set-same}
+use borrow.Author.Tests.{leb-true}
+use Rattle.basics.proofs.Tests.{both}
+use Rattle.basics.proofs.Stores.{sets-below}
+use Rattle.text.specs.Reading.{begin, ended, fine, numbersOf, wholeLines, fewStates, requestOf, Reading, asked, bad, readNumbers, readText, answerOf, recordingBy, ReadBy}
+use Rattle.text.specs.declared.Read.{Read}
+use Rattle.text.specs.declared.Read.the-variants as Read
+use Rattle.text.specs.declared.Numbers.the-variants.{All, Broken}
+
+-- stores may run over the end: what lies within can be read
+pub sets-within : (vs l : List ℕ) (i k : ℕ) → k < length vs → i + k < length l → getD (sets l i vs) (i + k) 0 ≡ getD vs k 0
+sets-within [] l i k h r = absurd (omega arith)
+sets-within (v ∷ vs) l i zero h r =
+    ap (λ (j : ℕ). getD (sets (set l i v) (suc i) vs) j 0) (let e : i + 0 ≡ i = omega arith in e)
+    ∙ sets-below 0 vs (set l i v) (suc i) i (omega arith)
+    ∙ getD-set-same l i v 0 (omega arith)
+sets-within (v ∷ vs) l i (suc k) h r =
+    ap (λ (j : ℕ). getD (sets (set l i v) (suc i) vs) j 0) (let e : i + suc k ≡ suc i + k = omega arith in e)
+    ∙ sets-within vs (set l i v) (suc i) k (omega arith) (omega (arith, length-set l i v))
+
+pub front : (vs l : List ℕ) (k : ℕ) → k < length vs → k < length l → getD (sets l 0 vs) k 0 ≡ getD vs k 0
+front vs l k h r =
+    let e : k ≡ 0 + k = omega arith in
+    ap (λ (j : ℕ). getD (sets l 0 vs) j 0) e ∙ sets-within vs l 0 k h (omega arith)
+
+-- whole lines are at least line 1
+pub whole-least : (m : ℕ) → wholeLines m ≡ true → 7 ≤ m
+whole-least m e = leb-true 7 m (both (leb 7 m) (eqb ((m - 7) % 5) 0 && leb ((m - 7) / 5) 1000) e .0)
+
+module _ (f : Bool) (m : ℕ) where
+  pub all-told : (n : ℕ) → All n ≡ cond f (All m) Broken → (f ≡ true) × (n ≡ m)
+  all-told n e = go f refl e
+    where
+      go : (g : Bool) → f ≡ g → All n ≡ cond g (All m) Broken → (f ≡ true) × (n ≡ m)
+      go true h d = (h, cc)
+      go false h d = absurd (let z : _≡_ {A = ℕ} 0 1 = cc in omega arith)
+
+  pub broken-told : Broken ≡ cond f (All m) Broken → f ≡ false
+  broken-told e = go f refl e
+    where
+      go : (g : Bool) → f ≡ g → Broken ≡ cond g (All m) Broken → f ≡ false
+      go true h d = absurd (let z : _≡_ {A = ℕ} 0 1 = cc in omega arith)
+      go false h d = h
+
+-- a text is answered by what it reads
+read-by : (g h : Reading) (before : List ℕ) (r : Read) (left : List ℕ) → g ≡ h → r ≡ answerOf h → left ≡ recordingBy h before → ReadBy g before r left
+read-by g h before r left e f k =
+    record { answer = f ∙ sym (ap answerOf e); recording = k ∙ sym (ap (λ (x : Reading). recordingBy x before) e) }
+
+module _ (b before : List ℕ) where
+  pub read-broken : Broken ≡ numbersOf begin b → ReadBy (readText b) before Read.Bad before
+  unfolding readText
+  read-broken e =
+      read-by (readText b) bad before Read.Bad before
+      (ap (λ (x : Bool). cond x (readNumbers (ended begin b)) bad) (broken-told (fine begin b) (0 + length (ended begin b)) e))
+      refl
+      refl
+
+  -- with the numbers of line 1 in front of seven words
+  module _ (l head : List ℕ) (n : ℕ) (seven : length l ≡ 7) (stored : head ≡ sets l 0 (drop 0 (ended begin b))) (told : All n ≡ numbersOf begin b) where
+    good : fine begin b ≡ true
+    good = all-told (fine begin b) (0 + length (ended begin b)) n told .0
+
+    long : n ≡ length (ended begin b)
+    long = let e = all-told (fine begin b) (0 + length (ended begin b)) n told .1 in omega arith
+
+    at : (k : ℕ) → k < 7 → 7 ≤ n → getD head k 0 ≡ getD (ended begin b) k 0
+    at k h g =
+        ap (λ (x : List ℕ). getD x k 0) stored
+        ∙ front (ended begin b) l k (omega (arith, long)) (omega arith)
+
+    reads : (x : Bool) → (wholeLines (length (ended begin b)) && fewStates (getD (ended begin b) 1 0) (getD (ended begin b) 2 0)) ≡ x → readText b ≡ cond x (asked (requestOf (ended begin b)) (drop 7 (ended begin b))) bad
+    unfolding readText
+    reads x e =
+        ap (λ (y : Bool). cond y (readNumbers (ended begin b)) bad) good
+        ∙ ap (λ (y : Bool). cond y (asked (requestOf (ended begin b)) (drop 7 (ended begin b))) bad) e
+
+    -- the test of the code is the test of the definition
+    tested : (wholeLines n && fewStates (getD head 1 0) (getD head 2 0)) ≡ (wholeLines (length (ended begin b)) && fewStates (getD (ended begin b) 1 0) (getD (ended begin b) 2 0))
+    tested = go (wholeLines n) refl
+      where
+        go : (x : Bool) → wholeLines n ≡ x → (wholeLines n && fewStates (getD head 1 0) (getD head 2 0)) ≡ (wholeLines (length (ended begin b)) && fewStates (getD (ended begin b) 1 0) (getD (ended begin b) 2 0))
+        go true e =
+            let p = at 1 (omega arith) (whole-least n e) in
+            let q = at 2 (omega arith) (whole-least n e) in
+            λ i. wholeLines (long i) && fewStates (p i) (q i)
+        go false e =
+            ap (λ (x : Bool). x && fewStates (getD head 1 0) (getD head 2 0)) e
+            ∙ sym (ap (λ (x : Bool). x && fewStates (getD (ended begin b) 1 0) (getD (ended begin b) 2 0)) (ap wholeLines (sym long) ∙ e))
+
+    pub read-refused : (wholeLines n && fewStates (getD head 1 0) (getD head 2 0)) ≡ false → ReadBy (readText b) before Read.Bad before
+    read-refused e = read-by (readText b) bad before Read.Bad before (reads false (sym tested ∙ e)) refl refl
+
+    pub read-asked : (left : List ℕ) → (wholeLines n && fewStates (getD head 1 0) (getD head 2 0)) ≡ true → left ≡ sets before 0 (drop 7 (ended begin b))
+        → ReadBy (readText b) before
+        (Read.Request
+        (record { tick = getD head 0 0; buckets = getD head 1 0; «spread_states» = getD head 2 0; least = getD head 3 0; gap = getD head 4 0; start = getD head 5 0; end = getD head 6 0; quotes = (n - 7) / 5 }))
+        left
+    read-asked left e f =
+        let h = whole-least n (both (wholeLines n) (fewStates (getD head 1 0) (getD head 2 0)) e .0) in
+        let p0 = at 0 (omega arith) h in
+        let p1 = at 1 (omega arith) h in
+        let p2 = at 2 (omega arith) h in
+        let p3 = at 3 (omega arith) h in
+        let p4 = at 4 (omega arith) h in
+        let p5 = at 5 (omega arith) h in
+        let p6 = at 6 (omega arith) h in
+        read-by (readText b) (asked (requestOf (ended begin b)) (drop 7 (ended begin b))) before _ left
+        (reads true (sym tested ∙ e))
+        (λ i. Read.Request (record { tick = p0 i; buckets = p1 i; «spread_states» = p2 i; least = p3 i; gap = p4 i; start = p5 i; end = p6 i; quotes = (long i - 7) / 5 }))
+        f

@@ -1,0 +1,9 @@
+pub mod Steps
+pub mod Walks
+pub mod Answers
+pub mod Decimals
+pub mod Faithful
+pub mod Puts
+pub mod Lengths
+pub mod Example
+pub mod Promised

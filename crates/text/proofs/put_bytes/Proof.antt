@@ -1,0 +1,67 @@
+use Prim.Native.Nat.{ℕ, _+_, _-_, _≤_}
+use mathlib.Core.Path.{_≡_, refl, sym, _∙_, ap}
+use native.Mathlib.Omega.{arith}
+use lib.ListN.{length, getD, drop, length-set}
+use lib.Seq.{sets}
+use Rattle.text.proofs.Puts.{bytes-step, bytes-end}
+use Rattle.text.proofs.put_bytes.Statement.{statement}
+use Rattle.text.proofs.put_bytes.Tie as tie
+
+abbrev Inv-loop : tie.InvT-loop
+Inv-loop out₀ at bytes i₀ out i = (i ≤ length bytes) × (length out ≡ length out₀) × (sets out (at + i) (drop i bytes) ≡ sets out₀ at bytes)
+
+abbrev μ-loop : tie.MeasureT-loop
+μ-loop out₀ at bytes i₀ out i = length bytes - i
+
+loop-holds : tie.Need-loop-holds Inv-loop μ-loop
+loop-holds c = let a = c .args in let z : a .at + 0 ≡ a .at = omega arith in (omega arith, refl, ap (λ (j : ℕ). sets (a .out .now) j (a .bytes .now)) z)
+
+shared-slice-read-out : tie.Need-shared-slice-read-out Inv-loop μ-loop
+shared-slice-read-out c = omega arith
+
+add-out : tie.Need-add-out Inv-loop μ-loop
+add-out c = omega arith
+
+slice-write-out : tie.Need-slice-write-out Inv-loop μ-loop
+slice-write-out c = omega arith
+
+add-i : tie.Need-add-i Inv-loop μ-loop
+add-i c = omega arith
+
+loop-less : tie.Need-loop-less Inv-loop μ-loop
+loop-less c = omega arith
+
+loop-again : tie.Need-loop-again Inv-loop μ-loop
+loop-again c =
+    let l = c .before .before .loop in
+    let a = c .before .before .before .args in
+    (omega arith, length-set (l .out) (a .at + l .i) (getD (a .bytes .now) (l .i) 0) ∙ l .inv .1, bytes-step (l .out) (a .at) (l .i) (a .bytes .now) (omega arith) ∙ l .inv .2)
+
+add-result : tie.Need-add-result Inv-loop μ-loop
+add-result c = omega arith
+
+same-length : tie.Need-same-length Inv-loop μ-loop
+same-length c = c .before .loop .inv .1
+
+returns : tie.Need-returns Inv-loop μ-loop
+returns c =
+    let l = c .before .loop in
+    let a = c .before .before .args in
+    record { next-is = omega arith; stored = sym (bytes-end (l .out) (a .at) (l .i) (a .bytes .now) (omega arith)) ∙ l .inv .2 }
+
+pub put-bytes-spec : {M : Type 1} → statement M
+put-bytes-spec =
+    tie.close
+    (tie.spec
+    Inv-loop
+    μ-loop
+    loop-holds
+    shared-slice-read-out
+    add-out
+    slice-write-out
+    add-i
+    loop-less
+    loop-again
+    add-result
+    same-length
+    returns)
