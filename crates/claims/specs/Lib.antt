@@ -1,1 +1,2 @@
 pub mod Models
+pub mod Evening

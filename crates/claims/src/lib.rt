@@ -1,1 +1,1 @@
-// The theorems of demand 3 on fitted models and their signals. No code.
+// The theorems of demand 3 on fitted models, their signals and evenings. No code.

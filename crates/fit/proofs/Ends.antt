@@ -20,12 +20,13 @@ use Rattle.marking.specs.Below.{someTo}
 use Rattle.marking.specs.Marks.{Cells, observations, Marked, markOf}
 use Rattle.marking.proofs.Below.{some-none, some-step}
 use Rattle.marking.proofs.Decided.{marked-is}
-use Rattle.linear.specs.Scratch.{from, sumAt, shareAt, solvedG1}
+use Rattle.linear.specs.Flat.{from}
+use Rattle.series.specs.Scratch.{sumAt, shareAt, solvedG1}
 use Rattle.system.specs.Rows.{used}
 use Rattle.system.specs.Tables.{Marks}
 use Rattle.system.specs.Solution.{Solution, solution, unsolved, solutionOf, checkOf, Stands, StandsIn, SolvedIn}
 use Rattle.system.proofs.Filling.{used-number}
-use Rattle.fit.specs.Estimates.{Given, estimateOf, estimate, representable}
+use Rattle.estimates.specs.Estimates.{Given, estimateOf, estimate, representable}
 use Rattle.fit.specs.Fit.{Fit, fitted, refused, judgedRows, fitFrom, fitOf, tableOf, answerOf, modelAfter}
 use Rattle.fit.specs.Steps.{rowsIn, FitEnds}
 

@@ -17,7 +17,7 @@ use Rattle.quotes.specs.Refusals.{refusal}
 use Rattle.quotes.specs.declared.Check.{Check}
 use Rattle.quotes.specs.declared.Check.the-variants.{Fine, Refused}
 use Rattle.quotes.specs.declared.Refusal.the-variants.{NoCalibratedState, Unrepresentable}
-use Rattle.fit.specs.Estimates.{representable}
+use Rattle.estimates.specs.Estimates.{representable}
 use Rattle.fit.specs.Fit.{judgedRows, tableOf, answerOf}
 
 -- ---- judged

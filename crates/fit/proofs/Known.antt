@@ -32,7 +32,7 @@ use Rattle.calibrator.proofs.Room.{room-known, lengths-known}
 use Rattle.mirrored.specs.Mirrors.{storedOver, totalMirrored, cellsAlike, cellMirrored, rowMirrored, checkState, isTwice, checkMirrored}
 use Rattle.mirrored.proofs.Walks.{all-at}
 use Rattle.marking.specs.Mirror.{Mirrored}
-use Rattle.linear.specs.Scratch.{Scratch}
+use Rattle.series.specs.Scratch.{Scratch}
 use Rattle.system.specs.Tables.{totalOf, Exact}
 use Rattle.fit.specs.Fit.{fitOf, givenOf, wrongRoom, fitRefusal, endFit, fitUnless, fittedWith}
 use Rattle.fit.specs.Steps.{givenIn, Usable, FitEnds}

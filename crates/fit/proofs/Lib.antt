@@ -1,4 +1,3 @@
-pub mod Marked
 pub mod Judging
 pub mod Ends
 pub mod Known

@@ -41,10 +41,10 @@ use Rattle.marking.specs.Marks.{Cells}
 use Rattle.marking.proofs.Below.{some-not}
 use Rattle.linear.specs.Arithmetic.{rounded}
 use Rattle.linear.specs.Elimination.{Answer, solved, singular, gaussJordan}
-use Rattle.linear.specs.Series.{Series, converged, notConverged, sumSeries, shareAfter, fallbackWithinMoves}
+use Rattle.series.specs.Series.{Series, converged, notConverged, sumSeries, shareAfter, fallbackWithinMoves}
 use Rattle.system.specs.Rows.{used, systemOf}
 use Rattle.system.specs.Solution.{Solution, solution, unsolved, summedUp, solutionFrom, solutionOf}
-use Rattle.fit.specs.Estimates.{Given, estimate, representable}
+use Rattle.estimates.specs.Estimates.{Given, estimate, representable}
 use Rattle.fit.specs.Fit.{Fit, fitted, refused, judgedRows, fitFrom, fitOf, givenOf, fitRefusal, tableOf, answerOf, fitUnless, fittedWith}
 use Rattle.fit.specs.Models.{RowsOpposite, Inside, RowOf, Written}
 use Rattle.fit.proofs.Judging.{length-table, table-more, table-whole}

@@ -27,7 +27,7 @@ use Rattle.marking.specs.Marks.{Cells, notRare, reachesIn, markOf}
 use Rattle.marking.specs.Mirror.{Mirrored}
 use Rattle.marking.proofs.Mirror.{observations-mirrored, mark-mirrored}
 use Rattle.system.specs.Rows.{isCalibrated}
-use Rattle.fit.specs.Estimates.{Given, adjusted, judged, estimateOf, estimate, small, representable}
+use Rattle.estimates.specs.Estimates.{Given, adjusted, judged, estimateOf, estimate, small, representable}
 use Rattle.fit.specs.Models.{Opposite, RowsOpposite}
 
 -- ---- floats

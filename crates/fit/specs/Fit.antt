@@ -25,7 +25,7 @@ use Rattle.marking.specs.Marks.{cellsOf}
 use Rattle.system.specs.Rows.{used}
 use Rattle.system.specs.Tables.{totalOf}
 use Rattle.system.specs.Solution.{Solution, solution, unsolved, solutionOf}
-use Rattle.fit.specs.Estimates.{Given, estimate, representable}
+use Rattle.estimates.specs.Estimates.{Given, estimate, representable}
 
 -- each state's estimate, or the number of the refusal
 pub data Fit : Type 0 where

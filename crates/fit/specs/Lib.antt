@@ -1,4 +1,3 @@
-pub mod Estimates
 pub mod Fit
 pub mod Models
 pub mod Steps

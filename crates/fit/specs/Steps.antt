@@ -6,12 +6,13 @@ use lib.IntN.{ℤ}
 use lib.ListN.{length, getD}
 use lib.Ieee.{Float}
 use Rattle.marking.specs.Marks.{cellsOf, Fitting}
-use Rattle.linear.specs.Scratch.{from, sumAt, shareAt, solvedG1}
+use Rattle.linear.specs.Flat.{from}
+use Rattle.series.specs.Scratch.{sumAt, shareAt, solvedG1}
 use Rattle.system.specs.Tables.{totalOf}
 use Rattle.quotes.specs.States.{bucketIn, spreadIn}
 use Rattle.model.specs.declared.StateEstimate.{StateEstimate}
 use Rattle.quotes.specs.declared.Check.{Check}
-use Rattle.fit.specs.Estimates.{Given, estimate}
+use Rattle.estimates.specs.Estimates.{Given, estimate}
 use Rattle.fit.specs.Fit.{Fit, answerOf, modelAfter}
 
 -- what the inner functions are given: tables of n states and a table of their mirrors

@@ -56,7 +56,7 @@ pub record Holds (c : MicroPriceConfig) (m : Memory Previous) : Type 0 where
   pub within : over (m .counts) ≡ false
   pub sound : broken c (m .last) ≡ false
   pub last-fits : AllWords (previousWords (m .last))
-  pub largest-fits : m .counts .largest ≤ 4000000000
+  pub largest-fits : m .counts .largest < 2 ^ 64
 
 -- ---- new, and one quote more
 
@@ -89,7 +89,7 @@ module _ (c : MicroPriceConfig) (v : Valid c) where
   event-size (Quoted p) q s f =
       pair-size p q (fine-known c p (refuses-not (checkQuote c p) s)) f (neighboursOf c p q) refl
 
-  larger : (N : ℕ) (mirror : ℕ → ℕ) (e : Event) (k : Counts) → k .largest ≤ 4000000000 → sizeOf e ≤ 4000000000 → entered N mirror e k .largest ≤ 4000000000
+  larger : (N : ℕ) (mirror : ℕ → ℕ) (e : Event) (k : Counts) → k .largest < 2 ^ 64 → sizeOf e ≤ 4000000000 → entered N mirror e k .largest < 2 ^ 64
   larger N mirror first k h g = h
   larger N mirror (skip n) k h g = h
   larger N mirror (pair i j d) k h g = omega arith
@@ -218,7 +218,7 @@ module _ (c : MicroPriceConfig) (e : valid c ≡ true) (fits : ConfigWords c) (m
   record-fits : AllWords (m .counts .pairs ∷ (m .counts .skips ++ (m .counts .largest ∷ [])))
   record-fits = (
     omega (arith, ltb-false (2 ^ 52) (m .counts .pairs) (w .pairs-in)),
-    all-append (m .counts .skips) (m .counts .largest ∷ []) (counters-fit (m .counts .skips) (w .skips-in)) (omega (arith, h .largest-fits), tt),
+    all-append (m .counts .skips) (m .counts .largest ∷ []) (counters-fit (m .counts .skips) (w .skips-in)) (h .largest-fits, tt),
   )
 
   body-fits : AllWords (body (m .counts .tables))

@@ -1,6 +1,4 @@
 pub mod Holds
+pub mod Restored
 pub mod Claim
 pub mod Demand
-pub mod Coding
-pub mod Steps
-pub mod Replays

@@ -9,7 +9,7 @@ use lib.Dec.{eqb}
 use lib.Ieee.{Float}
 use Rattle.linear.specs.Arithmetic.{Arith, rounded}
 use Rattle.linear.specs.Elimination.{Answer, solved, singular, matrixOf, andThen, Matrix, pivotRow, swapped, normalized, cleared, reduced, columnSolved, columnsSolved, gaussJordan}
-use Rattle.linear.specs.Scratch.{rowsOf, solveOf, Eliminated}
+use Rattle.linear.specs.Flat.{rowsOf, solveOf, Eliminated}
 use Rattle.linear.specs.declared.Solve.{Solve}
 use Rattle.linear.proofs.Pivot.{pivot-within}
 use Rattle.linear.proofs.Steps.{reduced-own, reduced-other}

@@ -10,7 +10,7 @@ use lib.Ieee.{Float, lt}
 use Rattle.floats.specs.Floats.{abs, tiny}
 use Rattle.linear.specs.Arithmetic.{rounded}
 use Rattle.linear.specs.Elimination.{Answer, solved, singular, andThen, pivotRow, swapped, reduced, columnSolved, columnsSolved, gaussJordan}
-use Rattle.linear.specs.Scratch.{rowsOf, Becomes, Eliminated}
+use Rattle.linear.specs.Flat.{rowsOf, Becomes, Eliminated}
 use Rattle.linear.specs.declared.Solve.{Solve}
 use Rattle.linear.specs.declared.Solve.the-variants.{Solved, Singular}
 use Rattle.linear.proofs.Cells.{column-same, eliminated-same}

@@ -4,9 +4,6 @@ pub mod Steps
 pub mod Pivot
 pub mod Cells
 pub mod Columns
-pub mod Vectors
-pub mod Products
-pub mod Rounds
 pub mod Exact
 pub mod Ratios
 pub mod Fractions

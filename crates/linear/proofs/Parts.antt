@@ -12,7 +12,7 @@ use lib.ListN.{length, set, length-set}
 use lib.Seq.{getD-set-same, getD-set-other}
 use lib.Ieee.{Float, nan}
 use Rattle.basics.proofs.Tests.{row-in}
-use Rattle.linear.specs.Scratch.{at, from, Outside}
+use Rattle.linear.specs.Flat.{at, from, Outside}
 use Rattle.linear.specs.Loops.{Filled, Swapped}
 
 -- ---- rows

@@ -15,7 +15,7 @@ use Rattle.floats.specs.Floats.{posZero}
 use Rattle.floats.proofs.Signs.{Three, less, same, more, three}
 use Rattle.linear.specs.Arithmetic.{rounded}
 use Rattle.linear.specs.Elimination.{swapped, normalized, cleared, reduced}
-use Rattle.linear.specs.Scratch.{from, rowsOf, Becomes}
+use Rattle.linear.specs.Flat.{from, rowsOf, Becomes}
 use Rattle.linear.specs.Loops.{Filled, Swapped, ClearedRows}
 use Rattle.linear.proofs.Steps.{reduced-own, reduced-other}
 use Rattle.linear.proofs.Parts.{outside-row}

@@ -1,6 +1,5 @@
 pub mod Arithmetic
 pub mod Elimination
-pub mod Series
-pub mod Scratch
+pub mod Flat
 pub mod Loops
 pub mod Exact

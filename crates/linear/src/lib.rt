@@ -1,4 +1,4 @@
-// The solver, the series and the share of the fit (document 01, "The fit").
+// The solver of the fit (document 01, "The fit").
 pub mod inner;
 
 // What `gauss_jordan` finds.
@@ -6,10 +6,4 @@ pub enum Solve {
     Solved,
     // A pivot's size is below 1e-12.
     Singular,
-}
-
-// What `sum_series` finds.
-pub enum Sum {
-    Converged,
-    NotConverged,
 }

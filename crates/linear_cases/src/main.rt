@@ -1,10 +1,10 @@
 // Runs the solver, the series and the share on fixed systems and prints the bits. tests/linear_bits says how the expected ones were made.
 use libc::STDOUT_FILENO;
 use linear::Solve;
-use linear::Sum;
+use series::Sum;
 ghost use Prim.Native.Nat.{_<_, _≤_};
 ghost use lib.ListN.{length};
-ghost use Rattle.linear.specs.Scratch.{Scratch};
+ghost use Rattle.series.specs.Scratch.{Scratch};
 
 // A number below 2^31 that is fixed by four.
 fn mixed(kind: u64, n: u64, r: u64, k: u64) -> u64
@@ -189,7 +189,7 @@ fn finish(s: &mut [f64], n: usize)
     requires { ⌜ Scratch n (now s) ⌝ }
 {
     let sum = n * (2 * n + 2);
-    let found = linear::inner::sum_series(s, n, 10_000);
+    let found = series::inner::sum_series(s, n, 10_000);
     match found {
         Sum::Converged => {
             io::write_all(STDOUT_FILENO, b"converged\n");
@@ -199,7 +199,7 @@ fn finish(s: &mut [f64], n: usize)
             io::write_all(STDOUT_FILENO, b"not converged\n");
         }
     }
-    linear::inner::fallback_within_moves(s, n, 10);
+    series::inner::fallback_within_moves(s, n, 10);
     io::write_all(STDOUT_FILENO, b"share\n");
     show(s, sum + n, sum + 2 * n);
 }

@@ -72,3 +72,8 @@ firstOf (Refused r) check = Refused r
 abbrev pub firstFrom : (ℕ → Check) → ℕ → ℕ → Check
 firstFrom f i zero = Fine
 firstFrom f i (suc k) = firstOf (f i) (firstFrom f (suc i) k)
+
+-- 0 if nothing is refused, else the refusal's number
+abbrev pub checkNumber : Check → ℕ
+checkNumber Fine = 0
+checkNumber (Refused r) = numberOf r

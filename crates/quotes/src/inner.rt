@@ -11,7 +11,7 @@ use super::Skip;
 use super::TopOfBook;
 ghost use mathlib.Core.Path.{_≡_};
 ghost use Prim.Native.Nat.{_+_, _-_, _*_, _≤_, _<_, min, max};
-ghost use Rattle.quotes.specs.Refusals.{numberOf};
+ghost use Rattle.quotes.specs.Refusals.{numberOf, checkNumber};
 ghost use Rattle.quotes.specs.Configuration.{shape, valid, states};
 ghost use Rattle.quotes.specs.Quotes.{over, bad, onGrid, inTicks, offTick, checkQuote, spreadOf, halfTicks};
 ghost use Rattle.quotes.specs.Known.{Valid, Accepted};
@@ -42,6 +42,16 @@ pub fn number_of(r: Refusal) -> u64
         Refusal::SingularTransitions => 17,
         Refusal::NotConverged => 18,
         Refusal::Unrepresentable => 19,
+    }
+}
+
+// 0 if nothing is refused, else the refusal's number.
+pub fn check_number(k: Check) -> u64
+    ensures { λ n. ⌜ n ≡ checkNumber k ⌝ }
+{
+    match k {
+        Check::Fine => 0,
+        Check::Refused(r) => number_of(r),
     }
 }
 

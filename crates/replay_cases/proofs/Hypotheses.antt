@@ -5,7 +5,7 @@ use native.Mathlib.Omega.{arith}
 use lib.ListN.{replicate}
 use Rattle.image.specs.Layout.{header, headerIn}
 use Rattle.history.specs.Calls.{OwnImages, newPast}
-use Rattle.history.specs.Replay.{callsFrom, OwnCalls}
+use Rattle.replay.specs.Replay.{callsFrom, OwnCalls}
 use Rattle.replay_cases.specs.Journal.{setup, journal, start}
 
 own : OwnImages setup (newPast setup) (callsFrom setup journal 0 16 start)

@@ -4,7 +4,7 @@ use Prim.Native.Nat.{ℕ}
 use lib.ListN.{replicate}
 use Rattle.quotes.specs.declared.MicroPriceConfig.{MicroPriceConfig}
 use Rattle.calibrator.specs.Observe.{fresh}
-use Rattle.history.specs.Replay.{Site}
+use Rattle.replay.specs.Replay.{Site}
 
 -- three states; an image has 328 bytes
 abbrev pub setup : MicroPriceConfig

@@ -2,9 +2,9 @@
 use calibrator::Counters;
 use calibrator::Previous;
 use calibrator::Record;
-use history::Replayed;
 use libc::STDOUT_FILENO;
 use quotes::MicroPriceConfig;
+use replay::Replayed;
 ghost use mathlib.Core.Path.{_≡_};
 ghost use Rattle.replay_cases.specs.Journal as Journal;
 
@@ -166,7 +166,7 @@ fn main() {
     let calls = journal();
     let made = calibrator::inner::new(empty(), &mut stay, &mut moved, &mut totals, setup());
     let rec = made.next;
-    let done = history::inner::replay(
+    let done = replay::inner::replay(
         rec,
         &mut stay,
         &mut moved,
@@ -184,7 +184,7 @@ fn main() {
     let next = done.next;
     let odd = [3; 6];
     let mut one = [7; 1];
-    let bad = history::inner::replay(
+    let bad = replay::inner::replay(
         next,
         &mut stay,
         &mut moved,

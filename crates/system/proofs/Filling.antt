@@ -24,7 +24,8 @@ use Rattle.marking.proofs.Below.{sum-more, sum-part}
 use Rattle.marking.proofs.Rows.{row-fits}
 use Rattle.linear.specs.Arithmetic.{rounded}
 use Rattle.linear.specs.Elimination.{system}
-use Rattle.linear.specs.Scratch.{at, from, rowsOf, width, Becomes}
+use Rattle.linear.specs.Flat.{at, from, rowsOf, Becomes}
+use Rattle.series.specs.Scratch.{width}
 use Rattle.linear.specs.Loops.{Filled}
 use Rattle.linear.proofs.Parts.{outside-row}
 use Rattle.system.specs.Rows.{isCalibrated, used, part, Q, T, K, fallback, systemOf}

@@ -11,15 +11,16 @@ use Rattle.quotes.specs.declared.Refusal.the-variants.{SingularTransitions, Not
 use Rattle.marking.specs.Marks.{Cells}
 use Rattle.linear.specs.Arithmetic.{rounded}
 use Rattle.linear.specs.Elimination.{Answer, solved, singular, matrixOf, gaussJordan}
-use Rattle.linear.specs.Series.{Series, converged, notConverged, sumOf, sumSeries, fallbackWithinMoves}
-use Rattle.linear.specs.Scratch.{at, from, rowsOf, width, sumAt, shareAt, solveOf, Becomes, Eliminated, solvedG1, solvedF, solvedB, sumAnswer, Summed, lastProduct, Shared}
+use Rattle.series.specs.Series.{Series, converged, notConverged, sumOf, sumSeries, fallbackWithinMoves}
+use Rattle.linear.specs.Flat.{at, from, rowsOf, solveOf, Becomes, Eliminated}
+use Rattle.series.specs.Scratch.{width, sumAt, shareAt, solvedG1, solvedF, solvedB, sumAnswer, Summed, lastProduct, Shared}
 use Rattle.linear.specs.declared.Solve.{Solve}
 use Rattle.linear.specs.declared.Solve.the-variants.{Solved, Singular}
-use Rattle.linear.specs.declared.Sum.{Sum}
-use Rattle.linear.specs.declared.Sum.the-variants as Sum
+use Rattle.series.specs.declared.Sum.{Sum}
+use Rattle.series.specs.declared.Sum.the-variants as Sum
 use Rattle.basics.proofs.Tests.{row-in}
 use Rattle.linear.proofs.Cells.{eliminated-of}
-use Rattle.linear.proofs.Rounds.{summed-of, shared-of}
+use Rattle.series.proofs.Rounds.{summed-of, shared-of}
 use Rattle.system.specs.Rows.{systemOf}
 use Rattle.system.specs.Solution.{Solution, solution, unsolved, summedUp, solutionFrom, solutionOf, Stands, SolvedIn}
 

@@ -10,8 +10,9 @@ use Rattle.quotes.specs.declared.Check.the-variants.{Fine, Refused}
 use Rattle.marking.specs.Marks.{Cells}
 use Rattle.linear.specs.Arithmetic.{rounded}
 use Rattle.linear.specs.Elimination.{Answer, solved, singular, gaussJordan}
-use Rattle.linear.specs.Series.{Series, converged, notConverged, sumSeries, fallbackWithinMoves}
-use Rattle.linear.specs.Scratch.{from, sumAt, shareAt, solvedG1}
+use Rattle.series.specs.Series.{Series, converged, notConverged, sumSeries, fallbackWithinMoves}
+use Rattle.linear.specs.Flat.{from}
+use Rattle.series.specs.Scratch.{sumAt, shareAt, solvedG1}
 use Rattle.system.specs.Rows.{systemOf}
 
 -- G1, the sum of its series and the share, by state; or why there is none, by the refusal's number

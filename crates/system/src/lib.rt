@@ -1,9 +1,9 @@
 // The rows of the fit and the solution of its system (document 01, "The fit").
 // Inner functions: for the crates above, not for users. Where one has a `requires`, each caller proves it.
 use linear::Solve;
-use linear::Sum;
 use quotes::Check;
 use quotes::Refusal;
+use series::Sum;
 ghost use mathlib.Core.Path.{_≡_};
 ghost use mathlib.Core.Bool.{true, cond, not};
 ghost use Prim.Native.Nat.{ℕ, _+_, _*_, _<_, _≤_, _^_};
@@ -15,7 +15,8 @@ ghost use Rattle.floats.specs.Floats.{one, posZero};
 ghost use Rattle.marking.specs.Below.{someTo};
 ghost use Rattle.model.specs.Status.{statusNumber};
 ghost use Rattle.marking.specs.Marks.{cellOf, cellsOf, markOf};
-ghost use Rattle.linear.specs.Scratch.{Scratch, Becomes, width};
+ghost use Rattle.linear.specs.Flat.{Becomes};
+ghost use Rattle.series.specs.Scratch.{Scratch, width};
 ghost use Rattle.linear.specs.Loops.{Filled};
 ghost use Rattle.system.specs.Rows.{used, part, Q, T, K, fallback, systemOf};
 ghost use Rattle.system.specs.Tables.{totalOf, Exact, Marks};
@@ -165,9 +166,9 @@ pub fn solve_system(
     let Solve::Solved = linear::inner::gauss_jordan(scratch, n, 2 * n + 2) else {
         return Check::Refused(Refusal::SingularTransitions);
     };
-    let Sum::Converged = linear::inner::sum_series(scratch, n, rounds) else {
+    let Sum::Converged = series::inner::sum_series(scratch, n, rounds) else {
         return Check::Refused(Refusal::NotConverged);
     };
-    linear::inner::fallback_within_moves(scratch, n, moves);
+    series::inner::fallback_within_moves(scratch, n, moves);
     Check::Fine
 }

@@ -7,7 +7,7 @@ use lib.ListN.{length-set}
 use Rattle.basics.proofs.Tests.{fits-mul, row-in}
 use Rattle.marking.specs.Marks.{cellsOf, observations, markOf}
 use Rattle.marking.proofs.Rows.{any-least, observations-fit}
-use Rattle.linear.specs.Scratch.{width}
+use Rattle.series.specs.Scratch.{width}
 use Rattle.system.specs.Rows.{used}
 use Rattle.system.specs.Tables.{totalOf}
 use Rattle.system.proofs.Filling.{stay-fits, moved-fits, used-number, state-row}

@@ -3,7 +3,8 @@ use Prim.Native.Nat.{ℕ, _≤_, _-_}
 use mathlib.Core.Path.{_≡_, refl, _∙_}
 use lib.ListN.{length}
 use Rattle.marking.specs.Marks.{cellsOf}
-use Rattle.linear.specs.Scratch.{width, Becomes}
+use Rattle.linear.specs.Flat.{Becomes}
+use Rattle.series.specs.Scratch.{width}
 use Rattle.system.specs.Rows.{systemOf}
 use Rattle.system.specs.Tables.{totalOf, Marks}
 use Rattle.system.proofs.Filling.{rows-none, rows-more}

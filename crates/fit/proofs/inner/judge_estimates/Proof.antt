@@ -11,7 +11,7 @@ use lib.Seq.{sets}
 use Rattle.marking.specs.Marks.{cellsOf}
 use Rattle.marking.proofs.Below.{some-none}
 use Rattle.system.specs.Tables.{Marks}
-use Rattle.fit.specs.Estimates.{representable}
+use Rattle.estimates.specs.Estimates.{representable}
 use Rattle.fit.specs.Fit.{tableOf}
 use Rattle.fit.specs.Steps.{givenIn, rowsIn}
 use Rattle.fit.proofs.Judging.{Seen, seen-more, judged-no, judged-none, judged-fine, table-more, table-whole}

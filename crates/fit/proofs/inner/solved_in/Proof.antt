@@ -1,6 +1,6 @@
 use native.Mathlib.Omega.{arith}
 use Rattle.basics.proofs.Tests.{fits-mul, row-in}
-use Rattle.linear.specs.Scratch.{width}
+use Rattle.series.specs.Scratch.{width}
 use borrow.Author.Needs.{needs}
 use Rattle.fit.proofs.inner.solved_in.Statement.{statement}
 use Rattle.fit.proofs.inner.solved_in.Tie as tie

@@ -5,7 +5,7 @@ use native.Mathlib.Omega.{arith}
 use Rattle.marking.specs.Marks.{cellsOf, markOf, observations}
 use Rattle.marking.proofs.Rows.{any-least}
 use Rattle.quotes.specs.States.{bucketIn, spreadIn}
-use Rattle.fit.specs.Estimates.{estimateOf}
+use Rattle.estimates.specs.Estimates.{estimateOf}
 use borrow.Author.Needs.{needs}
 use Rattle.fit.proofs.inner.state_estimate.Statement.{statement}
 use Rattle.fit.proofs.inner.state_estimate.Tie as tie

@@ -3,7 +3,7 @@ use Prim.Native.Nat.{_≤_, _-_, _+_}
 use mathlib.Core.Path.{_≡_, refl, ap}
 use lib.ListN.{length, length-set}
 use lib.Ieee.{binary64, div}
-use Rattle.linear.specs.Scratch.{from}
+use Rattle.linear.specs.Flat.{from}
 use Rattle.linear.specs.Loops.{Filled}
 use Rattle.linear.proofs.Parts.{filled-none, filled-ahead, filled-more}
 use Rattle.linear.proofs.inner.divide_row.Statement.{statement}

@@ -4,7 +4,7 @@ use mathlib.Core.Path.{_≡_, refl}
 use mathlib.Core.Logic.{inl, inr, ⊎-elim}
 use lib.ListN.{length, length-set}
 use lib.Ieee.{binary64, sub, mul}
-use Rattle.linear.specs.Scratch.{from}
+use Rattle.linear.specs.Flat.{from}
 use Rattle.linear.specs.Loops.{Filled}
 use Rattle.linear.proofs.Parts.{filled-none, filled-ahead, filled-more}
 use Rattle.linear.proofs.inner.eliminate_row.Statement.{statement}

@@ -7,7 +7,7 @@ use Rattle.basics.proofs.Tests.{row-in}
 use Rattle.floats.specs.Floats.{abs, asGreat}
 use Rattle.linear.specs.Arithmetic.{rounded}
 use Rattle.linear.specs.Elimination.{pivotRow}
-use Rattle.linear.specs.Scratch.{rowsOf}
+use Rattle.linear.specs.Flat.{rowsOf}
 use Rattle.linear.proofs.Pivot.{pivot-first, pivot-taken, pivot-left}
 use Rattle.linear.proofs.inner.find_pivot.Statement.{statement}
 use Rattle.linear.proofs.inner.find_pivot.Tie as tie

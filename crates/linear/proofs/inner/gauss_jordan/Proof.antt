@@ -4,7 +4,7 @@ use mathlib.Core.Path.{_≡_, refl}
 use lib.ListN.{length}
 use Rattle.linear.specs.Arithmetic.{rounded}
 use Rattle.linear.specs.Elimination.{columnsSolved}
-use Rattle.linear.specs.Scratch.{rowsOf, Eliminated}
+use Rattle.linear.specs.Flat.{rowsOf, Eliminated}
 use Rattle.linear.specs.declared.Solve.the-variants.{Solved}
 use Rattle.linear.proofs.Columns.{columns-none, columns-more, columns-singular}
 use Rattle.linear.proofs.inner.gauss_jordan.Statement.{statement}

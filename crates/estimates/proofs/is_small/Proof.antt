@@ -1,0 +1,15 @@
+use mathlib.Core.Path.{ap}
+use borrow.Author.Needs.{needs}
+use lib.Ieee.{lt}
+use Rattle.estimates.specs.Estimates.{big}
+use Rattle.estimates.proofs.is_small.Statement.{statement}
+use Rattle.estimates.proofs.is_small.Tie as tie
+
+abs-requires : tie.Need-abs-requires
+abs-requires c κs = search needs
+
+returns : tie.Need-returns
+returns c = ap (λ a. lt a big) (c .abs .ensures)
+
+pub is-small-spec : {M : Type 1} → statement M
+is-small-spec = tie.close (tie.spec abs-requires returns)

@@ -1,0 +1,3 @@
+pub mod Coding
+pub mod Steps
+pub mod Replays

@@ -1,0 +1,77 @@
+use Prim.Native.Nat.{_*_, _-_}
+use mathlib.Core.Path.{_≡_, sym, ap, _∙_}
+use mathlib.Core.Bool.{true, false}
+use native.Mathlib.Omega.{arith}
+use lib.ListN.{length}
+use borrow.Author.Tests.{not-true, not-false}
+use Rattle.basics.specs.Lists.{allFrom}
+use Rattle.mirrored.proofs.Walks.{whole, all-step, all-stop, all-end}
+use Rattle.replay.specs.Replay.{isCall}
+use Rattle.replay.proofs.Coding.{coded-ragged, coded-count, coded-length, coded-calls}
+use Rattle.replay.proofs.inner.is_well_coded.Statement.{statement}
+use Rattle.replay.proofs.inner.is_well_coded.Tie as tie
+
+abbrev Inv-loop : tie.InvT-loop
+Inv-loop calls room answers k₀ k =
+    (length calls ≡ 6 * answers) × (allFrom (isCall room calls) 0 answers ≡ allFrom (isCall room calls) k (answers - k))
+
+abbrev μ-loop : tie.MeasureT-loop
+μ-loop calls room answers k₀ k = answers - k
+
+returns : tie.Need-returns Inv-loop μ-loop
+returns c =
+    let a = c .before .before .args in
+    coded-ragged (a .room) (a .answers) (a .calls .now) (c .if1 .taken)
+
+returns-2 : tie.Need-returns-2 Inv-loop μ-loop
+returns-2 c =
+    let a = c .before .before .before .args in
+    coded-count (a .room) (a .answers) (a .calls .now) (c .if2 .taken)
+
+loop-holds : tie.Need-loop-holds Inv-loop μ-loop
+loop-holds c =
+    let a = c .before .before .before .args in
+    (coded-length (a .room) (a .answers) (a .calls .now) (omega arith) (omega arith), ap (allFrom _ 0) (whole (a .answers)))
+
+is-call-requires : tie.Need-is-call-requires Inv-loop μ-loop
+is-call-requires c κs = omega (arith, c .before .loop .inv .0)
+
+returns-3 : tie.Need-returns-3 Inv-loop μ-loop
+returns-3 c =
+    let a = c .before .before .before .before .before .before .before .args in
+    let l = c .before .before .before .loop in
+    coded-calls (a .room) (a .answers) (a .calls .now) (l .inv .0) false (sym (l .inv .1 ∙ all-stop _ (l .k) (a .answers) (c .before .before .loop-test .taken) (sym (c .before .is-call .ensures) ∙ not-true _ (c .if3 .taken))))
+
+add-k : tie.Need-add-k Inv-loop μ-loop
+add-k c = omega arith
+
+loop-less : tie.Need-loop-less Inv-loop μ-loop
+loop-less c = omega arith
+
+loop-again : tie.Need-loop-again Inv-loop μ-loop
+loop-again c =
+    let a = c .before .before .before .before .before .before .before .args in
+    let l = c .before .before .before .loop in
+    (l .inv .0, l .inv .1 ∙ all-step _ (l .k) (a .answers) (c .before .before .loop-test .taken) (sym (c .before .is-call .ensures) ∙ not-false _ (c .if3 .left)))
+
+returns-4 : tie.Need-returns-4 Inv-loop μ-loop
+returns-4 c =
+    let a = c .before .before .before .before .before .args in
+    let l = c .before .loop in
+    coded-calls (a .room) (a .answers) (a .calls .now) (l .inv .0) true (sym (l .inv .1 ∙ all-end _ (l .k) (a .answers) (c .loop-test .left)))
+
+pub is-well-coded-spec : {M : Type 1} → statement M
+is-well-coded-spec =
+    tie.close
+    (tie.spec
+    Inv-loop
+    μ-loop
+    returns
+    returns-2
+    loop-holds
+    is-call-requires
+    returns-3
+    add-k
+    loop-less
+    loop-again
+    returns-4)

@@ -1,0 +1,213 @@
+// The work by value, for Rattle callers, and the functions that it is made of. `replay` asks nothing; where another has a `requires`, each caller proves it.
+use super::ReplayDone;
+use super::Replayed;
+use calibrator::Record;
+use image::Restored;
+use quotes::Check;
+use quotes::MicroPriceConfig;
+use quotes::TopOfBook;
+ghost use mathlib.Core.Path.{_≡_};
+ghost use mathlib.Core.Bool.{true, false};
+ghost use Prim.Native.Nat.{_+_, _*_, _≤_, _<_};
+ghost use lib.Dec.{eqb, leb};
+ghost use lib.ListN.{length, take, drop};
+ghost use Rattle.calibrator.specs.Record.{memory};
+ghost use Rattle.history.specs.Calls.{quote, restore, restores, act};
+ghost use Rattle.replay.specs.Replay.{wordIn, quoteAt, startAt, longAt, isCall, wellCoded, site, siteAfter, sameConfig, answerNumber, steppedTo, stepped, Promised, replay as replays};
+
+// A call's answer as a number, and the record as it is left.
+pub struct CallDone {
+    pub answer: u64,
+    pub next: Record,
+}
+
+// ---- answers as numbers
+
+fn same_config(c: MicroPriceConfig, d: MicroPriceConfig) -> bool
+    ensures { λ r. ⌜ r ≡ sameConfig c d ⌝ }
+{
+    (c.tick_size == d.tick_size)
+        & (c.imbalance_buckets == d.imbalance_buckets)
+        & (c.spread_states == d.spread_states)
+        & (c.min_state_observations == d.min_state_observations)
+        & (c.max_quote_gap_ms == d.max_quote_gap_ms)
+}
+
+// The number of what a restore answers to a calibrator with the configuration c.
+fn restored_number(c: MicroPriceConfig, a: Restored) -> u64
+    ensures { λ n. ⌜ n ≡ answerNumber c (restores a) ⌝ }
+{
+    match a {
+        Restored::Config(d) => { if same_config(c, d) { 0 } else { 20 } }
+        Restored::Refused(r) => quotes::inner::number_of(r),
+    }
+}
+
+// ---- the encoding
+
+fn is_call(calls: &[u64], k: usize, room: usize) -> bool
+    requires { ⌜ 6 * k + 6 ≤ length (now calls) ⌝ }
+    ensures { λ r. ⌜ r ≡ isCall room (now (calls .entry)) k ⌝ }
+{
+    let at = 6 * k;
+    let kind = calls[at];
+    if kind == 0 {
+        return true;
+    }
+    if kind > 2 {
+        return false;
+    }
+    let start = calls[at + 1] as usize;
+    let long = calls[at + 2] as usize;
+    if start > room {
+        return false;
+    }
+    long <= room - start
+}
+
+fn is_well_coded(calls: &[u64], room: usize, answers: usize) -> bool
+    ensures { λ r. ⌜ r ≡ wellCoded room answers (now (calls .entry)) ⌝ }
+{
+    if calls.len() % 6 != 0 {
+        return false;
+    }
+    if calls.len() / 6 != answers {
+        return false;
+    }
+    let mut k = 0;
+    while k < answers {
+        if !is_call(calls, k, room) {
+            return false;
+        }
+        k += 1;
+    }
+    true
+}
+
+fn quote_at(calls: &[u64], k: usize) -> TopOfBook
+    requires { ⌜ 6 * k + 6 ≤ length (now calls) ⌝ }
+    ensures { λ q. ⌜ q ≡ quoteAt (now (calls .entry)) k ⌝ }
+{
+    let at = 6 * k;
+    TopOfBook {
+        timestamp_ms: calls[at + 1],
+        bid: calls[at + 2],
+        ask: calls[at + 3],
+        bid_size: calls[at + 4],
+        ask_size: calls[at + 5],
+    }
+}
+
+// ---- one call
+
+fn replay_quote(
+    rec: Record,
+    stay: &mut [u64],
+    moved: &mut [u64],
+    move_half_ticks: &mut [i64],
+    config: MicroPriceConfig,
+    next: TopOfBook,
+) -> CallDone
+    ensures { λ d. ⌜ (d .answer ≡ answerNumber config (act config (memory rec (now (stay .entry)) (now (moved .entry)) (now («move_half_ticks» .entry))) (quote next) .answer)) × (memory (d .next) (now (stay .exit)) (now (moved .exit)) (now («move_half_ticks» .exit)) ≡ act config (memory rec (now (stay .entry)) (now (moved .entry)) (now («move_half_ticks» .entry))) (quote next) .left) ⌝ }
+{
+    let done = calibrator::inner::observe(rec, stay, moved, move_half_ticks, config, next);
+    let answer = done.answer;
+    let after = done.next;
+    CallDone {
+        answer: quotes::inner::check_number(answer),
+        next: after,
+    }
+}
+
+fn replay_restore(
+    rec: Record,
+    stay: &mut [u64],
+    moved: &mut [u64],
+    move_half_ticks: &mut [i64],
+    config: MicroPriceConfig,
+    bytes: &[u8],
+) -> CallDone
+    ensures { λ d. ⌜ (d .answer ≡ answerNumber config (act config (memory rec (now (stay .entry)) (now (moved .entry)) (now («move_half_ticks» .entry))) (restore (now (bytes .entry)) (memory rec (now (stay .entry)) (now (moved .entry)) (now («move_half_ticks» .entry)))) .answer)) × (memory (d .next) (now (stay .exit)) (now (moved .exit)) (now («move_half_ticks» .exit)) ≡ act config (memory rec (now (stay .entry)) (now (moved .entry)) (now («move_half_ticks» .entry))) (restore (now (bytes .entry)) (memory rec (now (stay .entry)) (now (moved .entry)) (now («move_half_ticks» .entry)))) .left) ⌝ }
+{
+    let done = image::inner::restore(rec, bytes, stay, moved, move_half_ticks);
+    let answer = done.answer;
+    let after = done.next;
+    CallDone {
+        answer: restored_number(config, answer),
+        next: after,
+    }
+}
+
+// Call k of a well coded list.
+fn replay_call(
+    rec: Record,
+    stay: &mut [u64],
+    moved: &mut [u64],
+    move_half_ticks: &mut [i64],
+    config: MicroPriceConfig,
+    calls: &[u64],
+    k: usize,
+    room: &mut [u8],
+) -> CallDone
+    requires { ⌜ (6 * k + 6 ≤ length (now calls)) × (isCall (length (now room)) (now calls) k ≡ true) ⌝ }
+    ensures { λ d. ⌜ steppedTo (d .answer) (site (d .next) (now (stay .exit)) (now (moved .exit)) (now («move_half_ticks» .exit)) (now (room .exit))) ≡ stepped config (now (calls .entry)) k (site rec (now (stay .entry)) (now (moved .entry)) (now («move_half_ticks» .entry)) (now (room .entry))) ⌝ }
+{
+    let at = 6 * k;
+    let kind = calls[at];
+    if kind == 0 {
+        let next = quote_at(calls, k);
+        return replay_quote(rec, stay, moved, move_half_ticks, config, next);
+    }
+    let start = calls[at + 1] as usize;
+    let end = start + calls[at + 2] as usize;
+    if kind == 1 {
+        let answer = image::inner::save(
+            rec,
+            stay,
+            moved,
+            move_half_ticks,
+            config,
+            &mut room[start..end],
+        );
+        return CallDone {
+            answer: quotes::inner::check_number(answer),
+            next: rec,
+        };
+    }
+    replay_restore(rec, stay, moved, move_half_ticks, config, &room[start..end])
+}
+
+// ---- the list
+
+// The work of `replay` on a record by value.
+pub fn replay(
+    rec: Record,
+    stay: &mut [u64],
+    moved: &mut [u64],
+    move_half_ticks: &mut [i64],
+    config: MicroPriceConfig,
+    calls: &[u64],
+    room: &mut [u8],
+    answers: &mut [u64],
+) -> ReplayDone
+    ensures { λ d. ⌜ Promised config (site rec (now (stay .entry)) (now (moved .entry)) (now («move_half_ticks» .entry)) (now (room .entry))) (now (calls .entry)) (now (answers .entry)) (replays (d .answer) (now (answers .exit)) (site (d .next) (now (stay .exit)) (now (moved .exit)) (now («move_half_ticks» .exit)) (now (room .exit)))) ⌝ }
+{
+    if !is_well_coded(calls, room.len(), answers.len()) {
+        return ReplayDone {
+            answer: Replayed::BadEncoding,
+            next: rec,
+        };
+    }
+    let mut next = rec;
+    let mut k = 0;
+    while k < answers.len() {
+        let done = replay_call(next, stay, moved, move_half_ticks, config, calls, k, room);
+        answers[k] = done.answer;
+        next = done.next;
+        k += 1;
+    }
+    ReplayDone {
+        answer: Replayed::Done,
+        next,
+    }
+}

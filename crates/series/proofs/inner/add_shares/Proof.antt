@@ -1,0 +1,56 @@
+use native.Mathlib.Omega.{arith}
+use Prim.Native.Nat.{_≤_, _-_}
+use mathlib.Core.Path.{_≡_, refl}
+use lib.ListN.{length}
+use Rattle.linear.specs.Arithmetic.{rounded}
+use Rattle.series.specs.Series.{shareAfter}
+use Rattle.series.specs.Scratch.{solvedF, solvedB, lastProduct, Shared}
+use Rattle.series.proofs.Rounds.{shares-none, shares-more}
+use Rattle.series.proofs.inner.add_shares.Statement.{statement}
+use Rattle.series.proofs.inner.add_shares.Tie as tie
+
+abbrev Inv-loop : tie.InvT-loop
+Inv-loop s₀ n rounds done₀ s done =
+    (done ≤ rounds)
+    × (length s ≡ length s₀)
+    × Shared n done (shareAfter rounded n (solvedB n s₀) (solvedF n s₀) done) (lastProduct n (solvedB n s₀) (solvedF n s₀) done) s₀ s
+
+abbrev μ-loop : tie.MeasureT-loop
+μ-loop s₀ n rounds done₀ s done = rounds - done
+
+loop-holds : tie.Need-loop-holds Inv-loop μ-loop
+loop-holds c = (omega arith, refl, shares-none _ _ (c .before .pre .1))
+
+next-share-requires : tie.Need-next-share-requires Inv-loop μ-loop
+next-share-requires c κs = omega arith
+
+add-done : tie.Need-add-done Inv-loop μ-loop
+add-done c = omega arith
+
+loop-less : tie.Need-loop-less Inv-loop μ-loop
+loop-less c = omega arith
+
+loop-again : tie.Need-loop-again Inv-loop μ-loop
+loop-again c = (omega arith, omega arith, shares-more (c .before .before .before .before .before .before .before .args .n) (c .before .before .before .before .before .loop .done) _ _ _ (c .before .before .before .before .before .loop .inv .2) (c .before .before .next-share .ensures))
+
+same-length : tie.Need-same-length Inv-loop μ-loop
+same-length c = omega arith
+
+returns : tie.Need-returns Inv-loop μ-loop
+returns c =
+    let all : c .before .loop .done ≡ c .before .before .before .args .rounds = omega arith in
+    rw all at (c .before .loop .inv .2)
+
+pub add-shares-spec : {M : Type 1} → statement M
+add-shares-spec =
+    tie.close
+    (tie.spec
+    Inv-loop
+    μ-loop
+    loop-holds
+    next-share-requires
+    add-done
+    loop-less
+    loop-again
+    same-length
+    returns)

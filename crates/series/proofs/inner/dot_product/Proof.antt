@@ -1,0 +1,71 @@
+use native.Mathlib.Omega.{arith}
+use Prim.Native.Nat.{_≤_, _-_}
+use mathlib.Core.Path.{_≡_, refl}
+use native.Mathlib.Numerals.{add-one}
+use lib.Ieee.{ofBits, neg}
+use Rattle.linear.specs.Arithmetic.{rounded}
+use Rattle.series.specs.Series.{dot}
+use Rattle.linear.specs.Flat.{from}
+use Rattle.series.proofs.inner.dot_product.Statement.{statement}
+use Rattle.series.proofs.inner.dot_product.Tie as tie
+
+abbrev Inv-loop : tie.InvT-loop
+Inv-loop s i j n sum₀ k₀ sum k = (k ≤ n) × (sum ≡ dot rounded k (from i s) (from j s))
+
+abbrev μ-loop : tie.MeasureT-loop
+μ-loop s i j n sum₀ k₀ sum k = n - k
+
+loop-holds : tie.Need-loop-holds Inv-loop μ-loop
+unfolding dot ofBits neg
+loop-holds c = (omega arith, refl)
+
+add-sum : tie.Need-add-sum Inv-loop μ-loop
+add-sum c = omega arith
+
+mul-sum : tie.Need-mul-sum Inv-loop μ-loop
+mul-sum c = omega arith
+
+shared-slice-read-sum : tie.Need-shared-slice-read-sum Inv-loop μ-loop
+shared-slice-read-sum c = omega arith
+
+add-sum-2 : tie.Need-add-sum-2 Inv-loop μ-loop
+add-sum-2 c = omega arith
+
+mul-sum-2 : tie.Need-mul-sum-2 Inv-loop μ-loop
+mul-sum-2 c = omega arith
+
+shared-slice-read-sum-2 : tie.Need-shared-slice-read-sum-2 Inv-loop μ-loop
+shared-slice-read-sum-2 c = omega arith
+
+add-k : tie.Need-add-k Inv-loop μ-loop
+add-k c = omega arith
+
+loop-less : tie.Need-loop-less Inv-loop μ-loop
+loop-less c = omega arith
+
+loop-again : tie.Need-loop-again Inv-loop μ-loop
+unfolding dot
+loop-again c = (omega arith, rw (add-one, c .before .before .before .loop .inv .1))
+
+returns : tie.Need-returns Inv-loop μ-loop
+returns c =
+    let done : c .before .loop .k ≡ c .before .before .args .n = omega arith in
+    rw done at (c .before .loop .inv .1)
+
+pub dot-product-spec : {M : Type 1} → statement M
+dot-product-spec =
+    tie.close
+    (tie.spec
+    Inv-loop
+    μ-loop
+    loop-holds
+    add-sum
+    mul-sum
+    shared-slice-read-sum
+    add-sum-2
+    mul-sum-2
+    shared-slice-read-sum-2
+    add-k
+    loop-less
+    loop-again
+    returns)

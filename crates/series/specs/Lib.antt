@@ -1,0 +1,3 @@
+pub mod Series
+pub mod Scratch
+pub mod Loops
