@@ -210,13 +210,9 @@ fn record_of(pairs: u64) -> Record {
 }
 
 fn config_of(words: &[u64]) -> MicroPriceConfig {
-    MicroPriceConfig {
-        tick_size: word_at(words, 1),
-        imbalance_buckets: word_at(words, 2),
-        spread_states: word_at(words, 3),
-        min_state_observations: word_at(words, 4),
-        max_quote_gap_ms: word_at(words, 5),
-    }
+    MicroPriceConfig::new(word_at(words, 1), word_at(words, 2), word_at(words, 3))
+        .with_min_state_observations(word_at(words, 4))
+        .with_max_quote_gap_ms(word_at(words, 5))
 }
 
 // The states of a case; no case has more than 27.

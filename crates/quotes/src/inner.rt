@@ -154,15 +154,12 @@ fn larger(a: u64, b: u64) -> u64
     if a <= b { b } else { a }
 }
 
-// The bucket of a book with `lighter` on the bid, by one division.
+// The bucket of a book with `lighter` on the bid, by one division; 1 stands in for 0, as both give bucket 0.
 fn lower_bucket(lighter: u64, heavier: u64, n: u64) -> u64
     requires { ⌜ (lighter ≤ heavier) × (1 ≤ heavier) × (heavier ≤ 1000000000) × (2 ≤ n) × (n ≤ 256) ⌝ }
     ensures { λ r. ⌜ r ≡ lowerBucket lighter heavier n ⌝ }
 {
-    let scaled = lighter * n;
-    if scaled == 0 {
-        return 0;
-    }
+    let scaled = larger(lighter * n, 1);
     (scaled - 1) / (lighter + heavier)
 }
 

@@ -1,21 +1,15 @@
--- The list of calls of this program: six words each, as specs/Replay.antt of `history` has it.
+-- The list of calls of this program: six words each, as specs/Replay.antt of `replay` has it.
 use mathlib.Core.List.{List, [], _∷_}
 use Prim.Native.Nat.{ℕ}
 use lib.ListN.{replicate}
+use Rattle.quotes.specs.Configuration.{newConfig, withMinStateObservations, withMaxQuoteGapMs}
 use Rattle.quotes.specs.declared.MicroPriceConfig.{MicroPriceConfig}
 use Rattle.calibrator.specs.Observe.{fresh}
 use Rattle.replay.specs.Replay.{Site}
 
 -- three states; an image has 328 bytes
 abbrev pub setup : MicroPriceConfig
-setup =
-    record {
-      «tick_size» = 1;
-      «imbalance_buckets» = 3;
-      «spread_states» = 1;
-      «min_state_observations» = 1;
-      «max_quote_gap_ms» = 1000;
-    }
+setup = withMaxQuoteGapMs (withMinStateObservations (newConfig 1 3 1) 1) 1000
 
 abbrev pub journal : List ℕ
 journal =

@@ -1,0 +1,4 @@
+pub mod Within
+pub mod Evenings
+pub mod Texts
+pub mod Promised
