@@ -1,0 +1,127 @@
+// A configuration and a record as lent words, for the exported operations. Where a function has a `requires`, each caller proves it.
+use calibrator::Counters;
+use calibrator::Previous;
+use calibrator::Record;
+use quotes::MicroPriceConfig;
+use quotes::TopOfBook;
+ghost use mathlib.Core.Path.{_≡_};
+ghost use mathlib.Core.Bool.{true};
+ghost use mathlib.Core.List.{[]};
+ghost use Prim.Native.Nat.{_≤_};
+ghost use lib.ListN.{length};
+ghost use Rattle.calibrator.specs.Record.{memory};
+ghost use Rattle.image.specs.Layout.{previousWords};
+ghost use Rattle.encoding.specs.Encoding.{isConfig, configOf, configWords, wordsOf, quoteOf, previousOf, countersOf, recordOf, isRecord, areZero, encoded};
+
+// What an exported operation answers to words that are no configuration or no record.
+pub const BAD_ENCODING: u64 = 100;
+
+// The configuration of five words.
+pub fn config_of(w: &[u64]) -> MicroPriceConfig
+    requires { ⌜ isConfig (now w) ≡ true ⌝ }
+    ensures { λ r. ⌜ r ≡ configOf (now (w .entry)) ⌝ }
+{
+    MicroPriceConfig::new(w[0], w[1], w[2])
+        .with_min_state_observations(w[3])
+        .with_max_quote_gap_ms(w[4])
+}
+
+// Writes the five words of a configuration.
+pub fn put_config(w: &mut [u64], c: MicroPriceConfig)
+    requires { ⌜ isConfig (now w) ≡ true ⌝ }
+    ensures { λ _. ⌜ now (w .exit) ≡ configWords c ⌝ }
+{
+    w[0] = c.tick_size;
+    w[1] = c.imbalance_buckets;
+    w[2] = c.spread_states;
+    w[3] = c.min_state_observations;
+    w[4] = c.max_quote_gap_ms;
+}
+
+// Whether five words are zero.
+fn are_zero(a: u64, b: u64, c: u64, d: u64, e: u64) -> bool
+    ensures { λ r. ⌜ r ≡ areZero a b c d e ⌝ }
+{
+    (a == 0) & (b == 0) & (c == 0) & (d == 0) & (e == 0)
+}
+
+// Whether the words are a record's.
+pub fn is_record(w: &[u64]) -> bool
+    ensures { λ r. ⌜ r ≡ isRecord (now (w .entry)) ⌝ }
+{
+    if w.len() != 10 {
+        return false;
+    }
+    if w[0] == 1 {
+        return true;
+    }
+    (w[0] == 0) & are_zero(w[1], w[2], w[3], w[4], w[5])
+}
+
+// Whether the words are a configuration's and a record's.
+pub fn is_encoded(c: &[u64], w: &[u64]) -> bool
+    ensures { λ r. ⌜ r ≡ encoded (now (c .entry)) (now (w .entry)) ⌝ }
+{
+    (c.len() == 5) & is_record(w)
+}
+
+fn previous_of(w: &[u64]) -> Previous
+    requires { ⌜ 6 ≤ length (now w) ⌝ }
+    ensures { λ r. ⌜ r ≡ previousOf (now (w .entry)) ⌝ }
+{
+    if w[0] != 1 {
+        return Previous::Nothing;
+    }
+    Previous::Quoted(TopOfBook {
+        timestamp_ms: w[1],
+        bid: w[2],
+        ask: w[3],
+        bid_size: w[4],
+        ask_size: w[5],
+    })
+}
+
+// The record of ten words.
+pub fn record_of(w: &[u64]) -> Record
+    requires { ⌜ isRecord (now w) ≡ true ⌝ }
+    ensures { λ r. ⌜ r ≡ recordOf (now (w .entry)) ⌝ }
+{
+    let previous = previous_of(w);
+    let counters = Counters {
+        pairs: w[6],
+        skipped_spread_pairs: w[7],
+        skipped_gap_pairs: w[8],
+        largest_move_half_ticks: w[9],
+    };
+    Record { previous, counters }
+}
+
+// The last quote's words: 1 and its five, or zeros.
+fn words_of(p: Previous) -> [u64; 6]
+    ensures { λ r. ⌜ r ≡ previousWords p ⌝ }
+{
+    match p {
+        Previous::Nothing => [0, 0, 0, 0, 0, 0],
+        Previous::Quoted(q) => [1, q.timestamp_ms, q.bid, q.ask, q.bid_size, q.ask_size],
+    }
+}
+
+// Writes the ten words of a record.
+pub fn put_record(w: &mut [u64], rec: Record)
+    requires { ⌜ length (now w) ≡ 10 ⌝ }
+    ensures { λ _. ⌜ now (w .exit) ≡ wordsOf (memory rec [] [] []) ⌝ }
+{
+    let previous = rec.previous;
+    let p = words_of(previous);
+    let k = rec.counters;
+    w[0] = p[0];
+    w[1] = p[1];
+    w[2] = p[2];
+    w[3] = p[3];
+    w[4] = p[4];
+    w[5] = p[5];
+    w[6] = k.pairs;
+    w[7] = k.skipped_spread_pairs;
+    w[8] = k.skipped_gap_pairs;
+    w[9] = k.largest_move_half_ticks;
+}

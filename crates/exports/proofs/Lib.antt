@@ -1,0 +1,3 @@
+pub mod CountingWords
+pub mod Unchanged
+pub mod ModelWords

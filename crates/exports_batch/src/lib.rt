@@ -1,0 +1,101 @@
+// Document 01's evening and the replay of a journal for callers in C and Rust: numbers and lent slices alone. include/micro_price.h says how they are called.
+// They are apart from `exports`, so that the counting of a quote has one caller in each archive and is compiled into it.
+use encoding::BAD_ENCODING;
+use evening::Evening;
+use replay::Replayed;
+ghost use mathlib.Core.Path.{_≡_};
+ghost use Rattle.encoding.specs.Encoding.{lent};
+ghost use Rattle.exports_batch.specs.Batch.{lentEvening, eveningNumber, invalidAfter, calibrateWords, lentReplay, replayedNumber, PromisedWords};
+
+// An evening's answer as a number; with a fit's answer the number of invalid quotes is written.
+fn put_invalid(answer: Evening, invalid: &mut u64) -> u64
+    ensures { λ n. ⌜ (n ≡ eveningNumber answer) × (now (invalid .exit) ≡ invalidAfter answer (now (invalid .entry))) ⌝ }
+{
+    match answer {
+        Evening::Fitted(d) => {
+            *invalid = d.invalid;
+            let fitted = d.answer;
+            quotes::inner::check_number(fitted)
+        }
+        Evening::Refused(r) => quotes::inner::number_of(r),
+    }
+}
+
+// Counts the quotes of the window from new, and fits the counts. At 0 and at 16 to 19 invalid is the number of invalid quotes.
+#[no_mangle]
+pub extern "C" fn micro_price_calibrate(
+    config: &[u64],
+    rec: &mut [u64],
+    stay: &mut [u64],
+    moved: &mut [u64],
+    move_half_ticks: &mut [i64],
+    recording: &[u64],
+    start: u64,
+    end: u64,
+    scratch: &mut [f64],
+    model: &mut [u64],
+    invalid: &mut u64,
+) -> u64
+    ensures { λ n. ⌜ lentEvening n (now (rec .exit)) (now (stay .exit)) (now (moved .exit)) (now («move_half_ticks» .exit)) (now (model .exit)) (now (scratch .exit)) (now (invalid .exit)) ≡ calibrateWords (now (config .entry)) (now (rec .entry)) (now (stay .entry)) (now (moved .entry)) (now («move_half_ticks» .entry)) (now (recording .entry)) start end (now (model .entry)) (now (scratch .entry)) (now (invalid .entry)) ⌝ }
+{
+    if !encoding::is_encoded(config, rec) {
+        return BAD_ENCODING;
+    }
+    let done = evening::inner::calibrate_micro_price(
+        encoding::record_of(rec),
+        stay,
+        moved,
+        move_half_ticks,
+        encoding::config_of(config),
+        recording,
+        start,
+        end,
+        scratch,
+        model,
+    );
+    encoding::put_record(rec, done.next);
+    let answer = done.answer;
+    put_invalid(answer, invalid)
+}
+
+fn replayed_number(r: Replayed) -> u64
+    ensures { λ n. ⌜ n ≡ replayedNumber r ⌝ }
+{
+    match r {
+        Replayed::Done => 0,
+        Replayed::BadEncoding => BAD_ENCODING,
+    }
+}
+
+// Runs an encoded list of calls and writes each one's answer.
+#[no_mangle]
+pub extern "C" fn micro_price_replay(
+    config: &[u64],
+    rec: &mut [u64],
+    stay: &mut [u64],
+    moved: &mut [u64],
+    move_half_ticks: &mut [i64],
+    calls: &[u64],
+    room: &mut [u8],
+    answers: &mut [u64],
+) -> u64
+    ensures { λ n. ⌜ PromisedWords (now (config .entry)) (now (rec .entry)) (now (stay .entry)) (now (moved .entry)) (now («move_half_ticks» .entry)) (now (calls .entry)) (now (room .entry)) (now (answers .entry)) (lentReplay (now (answers .exit)) (now (room .exit)) (lent n (now (rec .exit)) (now (stay .exit)) (now (moved .exit)) (now («move_half_ticks» .exit)))) ⌝ }
+{
+    if !encoding::is_encoded(config, rec) {
+        return BAD_ENCODING;
+    }
+    let before = encoding::record_of(rec);
+    let ran = replay::inner::replay(
+        before,
+        stay,
+        moved,
+        move_half_ticks,
+        encoding::config_of(config),
+        calls,
+        room,
+        answers,
+    );
+    let answer = ran.answer;
+    encoding::put_record(rec, ran.next);
+    replayed_number(answer)
+}
