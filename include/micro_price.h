@@ -1,7 +1,6 @@
 /* The micro-price calibrator and model, for callers in C.
  *
- * Link target/staticlib/libexports.a and, for the last two functions, target/staticlib/libexports_batch.a, which
- * `rt staticlib exports` and `rt staticlib exports_batch` prove and write (x86-64 Linux).
+ * Link target/staticlib/libmicro_price.a, which bindings/library.sh proves and writes (x86-64 Linux).
  *
  * Every function ends on every input, traps on none and writes nothing but the memory that it is lent. What the caller owes:
  * each pointer is aligned and not null, a slice's pointer has so many elements behind it as its length says, of an empty
@@ -19,8 +18,9 @@
  *   image    160 + 16 * N * N + 8 * N bytes
  *   recording, calls  5 words a quote; 6 words a call
  *
- * Answers: 0, the number of a refusal from 1 to 19, or MICRO_PRICE_BAD_ENCODING, before all else, if config, rec or out has
- * another length than is said here or rec's words are not of this form. A refusal writes nothing, unless it is said below.
+ * Answers: 0, the number of a refusal from 1 to 19, or MICRO_PRICE_BAD_ENCODING, before all else, if config, rec or a
+ * signal's out has another length than is said here or rec's words are not of this form. A refusal writes nothing, unless
+ * it is said below.
  */
 #ifndef MICRO_PRICE_H
 #define MICRO_PRICE_H

@@ -70,6 +70,13 @@ encoded c w = isConfig c && isRecord w
 abbrev pub badEncoding : ℕ
 badEncoding = 100
 
+-- ---- a quote
+
+-- a quote by its time, bid, ask, bid size and ask size
+abbrev pub quote : ℕ → ℕ → ℕ → ℕ → ℕ → TopOfBook
+quote time bid ask bid-size ask-size =
+    record { «timestamp_ms» = time; bid = bid; ask = ask; «bid_size» = bid-size; «ask_size» = ask-size }
+
 -- ---- what an operation on counts leaves
 
 -- an answer, the record's words and the three tables

@@ -1,18 +1,23 @@
 -- From what the functions called answer to what an exported operation leaves.
 use Prim.Native.Nat.{ℕ}
-use mathlib.Core.Path.{_≡_, _∙_, ap}
+use mathlib.Core.Path.{_≡_, sym, _∙_, ap}
 use mathlib.Core.Bool.{true, cond}
 use mathlib.Core.List.{List}
 use lib.IntN.{ℤ}
 use Rattle.quotes.specs.Refusals.{checkNumber}
+use Rattle.quotes.specs.declared.Check.the-variants.{Refused}
 use Rattle.quotes.specs.declared.MicroPriceConfig.{MicroPriceConfig}
+use Rattle.quotes.specs.declared.Refusal.{Refusal}
+use Rattle.quotes.specs.declared.TopOfBook.{TopOfBook}
 use Rattle.tally.specs.Rules.{Memory}
 use Rattle.calibrator.specs.Record.{memory, Outcome}
+use Rattle.calibrator.specs.Observe.{observed}
 use Rattle.calibrator.specs.declared.Previous.{Previous}
 use Rattle.calibrator.specs.declared.Record.{Record}
+use Rattle.calibrator.proofs.Step.{observed-refused}
 use Rattle.image.specs.Image.{Saved, saved, Taken, restored}
-use Rattle.encoding.specs.Encoding.{configOf, wordsOf, recordOf, encoded, badEncoding, lent}
-use Rattle.encoding.proofs.Laws.{chosen}
+use Rattle.encoding.specs.Encoding.{configOf, wordsOf, recordOf, isRecord, encoded, badEncoding, lent}
+use Rattle.encoding.proofs.Laws.{words-back, chosen}
 use Rattle.exports.specs.Counting.{ofOutcome, lentOut, ofSaved, saveWords, lentBack, restoredNumber, configAfter, ofTaken, restoreWords}
 
 -- words that are encoded, with the record of them
@@ -36,3 +41,11 @@ module _ (c w s m : List ℕ) (t : List ℤ) (e : encoded c w ≡ true) (r : Rec
         ap (λ n. lentOut n (k .output)) number
         ∙ ap ofSaved (done ∙ (λ j. saved (decoded j) (memory (told j) s m t) out))
         ∙ chosen _ e
+
+-- a refused quote leaves the record's words
+pub refused-kept : (w : List ℕ) → isRecord w ≡ true → (s m : List ℕ) (t : List ℤ) (r : Record) → r ≡ recordOf w → (d : MicroPriceConfig) (q : TopOfBook) (o : Outcome Previous) → o ≡ observed d (memory r s m t) q → (x : Refusal) → o .answer ≡ Refused x → w ≡ wordsOf (o .left)
+refused-kept w e s m t r told d q o done x refused =
+    sym (words-back w e s m t)
+    ∙ (λ j. wordsOf (memory (sym told j) s m t))
+    ∙ ap wordsOf (sym (observed-refused d (memory r s m t) q x (ap (λ (p : Outcome Previous). p .answer) (sym done) ∙ refused)))
+    ∙ ap (λ (p : Outcome Previous). wordsOf (p .left)) (sym done)

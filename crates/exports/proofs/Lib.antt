@@ -1,3 +1,2 @@
 pub mod CountingWords
 pub mod Unchanged
-pub mod ModelWords

@@ -29,11 +29,6 @@ abbrev pub newWords : List ℕ → List ℕ → List ℕ → List ℕ → List �
 newWords c w s m t =
     cond (encoded c w) (ofOutcome (made (configOf c) (memory (recordOf w) s m t))) (lent badEncoding w s m t)
 
--- a quote by its time, bid, ask, bid size and ask size
-abbrev pub quote : ℕ → ℕ → ℕ → ℕ → ℕ → TopOfBook
-quote time bid ask bid-size ask-size =
-    record { «timestamp_ms» = time; bid = bid; ask = ask; «bid_size» = bid-size; «ask_size» = ask-size }
-
 abbrev pub observeWords : List ℕ → List ℕ → List ℕ → List ℕ → List ℤ → TopOfBook → Lent
 observeWords c w s m t q =
     cond (encoded c w) (ofOutcome (observed (configOf c) (memory (recordOf w) s m t) q)) (lent badEncoding w s m t)

@@ -1,5 +1,5 @@
 -- What a pair does to cells and totals, at one place or at two, and the room that it leaves.
-use Prim.Native.Nat.{ℕ, zero, suc, _+_, _*_, _^_, _≤_, _<_}
+use Prim.Native.Nat.{ℕ, zero, suc, _+_, _-_, _*_, _^_, _≤_, _<_}
 use mathlib.Core.Path.{_≡_, refl, sym, ap, _∙_, subst}
 use mathlib.Core.Bool.{Bool, true, false, not, _&&_, _||_, or-self, Bool·not-not}
 use mathlib.Core.Logic.{_≢_, ⊎-elim}
@@ -47,6 +47,20 @@ module _ (l : List ℕ) where
   pub cells-other : (a b : ℕ) → a < length l → b < length l → a ≢ b → (ltb (getD l a 0) 9007199254740992 && ltb (getD l b 0) 9007199254740992) ≡ not (cellsOver l a b)
   cells-other a b h k n =
       rw (at-first 0 (λ x. x + 1) (λ x. x + 1) l a b h n, at-second 0 (λ x. x + 1) (λ x. x + 1) l a b k (λ e. n (sym e)), not-or, room-one (getD l a 0) 9007199254740992, room-one (getD l b 0) 9007199254740992)
+
+  pub cells-flat : (a b k : ℕ) → a < length l → b < length l → (a ≡ b → k ≡ 1) → (a ≢ b → k ≡ 0) → (ltb (getD l a 0) (9007199254740992 - k) && ltb (getD l b 0) 9007199254740992) ≡ not (cellsOver l a b)
+  cells-flat a b k h g one none = go (ℕ-discrete a b)
+    where
+      under : (x : ℕ) → (ltb x 9007199254740991 && ltb x 9007199254740992) ≡ leb x 9007199254740990
+      under x = pick (leb x 9007199254740990) refl
+        where
+          pick : (t : Bool) → leb x 9007199254740990 ≡ t → (ltb x 9007199254740991 && ltb x 9007199254740992) ≡ t
+          pick true e = rw (lt-ltb x 9007199254740991 (omega (arith, leb-true x 9007199254740990 e)), lt-ltb x 9007199254740992 (omega (arith, leb-true x 9007199254740990 e)))
+          pick false e = rw (le-ltb x 9007199254740991 (omega (arith, leb-false x 9007199254740990 e)))
+
+      go : Dec (a ≡ b) → (ltb (getD l a 0) (9007199254740992 - k) && ltb (getD l b 0) 9007199254740992) ≡ not (cellsOver l a b)
+      go (yes q) = subst (λ (z : ℕ). (ltb (getD l a 0) (9007199254740992 - k) && ltb (getD l z 0) 9007199254740992) ≡ not (cellsOver l a z)) q (rw (one q) (under (getD l a 0) ∙ cells-same a h))
+      go (no q) = rw (none q) (cells-other a b h g q)
 
   -- where both entries fit, neither addition wraps
   pub cells-first : (a b : ℕ) → a < length l → cellsOver l a b ≡ false → getD l a 0 ≤ cellLimit

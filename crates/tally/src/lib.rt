@@ -1,5 +1,6 @@
 // Counting pairs into tables. Inner functions: for the crates above, not for users. Where one has a `requires`, each caller proves it.
 ghost use mathlib.Core.Path.{_≡_};
+ghost use mathlib.Core.Logic.{_≢_};
 ghost use mathlib.Core.Bool.{not, true, false, _||_};
 ghost use Prim.Native.Nat.{_+_, _*_, _≤_, _<_, max};
 ghost use lib.ListN.{length, getD};
@@ -44,16 +45,24 @@ fn cell(n: usize, i: usize, j: usize) -> usize
     i * n + j
 }
 
+// 1 if both places are one, else 0.
+fn once_more(a: usize, b: usize) -> u64
+    ensures { λ r. ⌜ ((a ≡ b) → r ≡ 1) × ((a ≢ b) → r ≡ 0) × (r ≤ 1) ⌝ }
+{
+    if a == b {
+        return 1;
+    }
+    0
+}
+
 fn cells_fit(t: &[u64], a: usize, b: usize) -> bool
     requires { ⌜ (a < length (now t)) × (b < length (now t)) ⌝ }
     ensures { λ r. ⌜ r ≡ not (cellsOver (now (t .entry)) a b) ⌝ }
 {
-    if a == b {
-        return t[a] <= CELL_LIMIT - 2;
-    }
     let x = t[a];
     let y = t[b];
-    (x < CELL_LIMIT) & (y < CELL_LIMIT)
+    let twice = once_more(a, b);
+    (x < CELL_LIMIT - twice) & (y < CELL_LIMIT)
 }
 
 fn add_cells(t: &mut [u64], a: usize, b: usize)

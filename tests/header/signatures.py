@@ -1,0 +1,131 @@
+#!/usr/bin/env python3
+"""signatures.py TREE ARCHIVE
+
+Holds the functions that TREE/include/micro_price.h declares against the symbols that ARCHIVE exports, and their parameters
+against crates/exports*, where they are written, and against bindings/rust/src/sys.rs, where Rust declares them. Holds the
+header's numbers against crates/quotes and crates/encoding. Prints each mismatch and ends with status 1 if there is one.
+"""
+import re
+import subprocess
+import sys
+from pathlib import Path
+
+C_TYPES = {"u8": "uint8_t", "u64": "uint64_t", "i64": "int64_t", "f64": "double", "usize": "size_t"}
+
+
+def without_comments(text):
+    return re.sub(r"/\*.*?\*/|//[^\n]*", "", text, flags=re.S)
+
+
+def spaced(c_type):
+    """A C type with single spaces."""
+    return " ".join(c_type.replace("*", " * ").split())
+
+
+def in_header(text):
+    """{function: (result, [(parameter's name, type)])}, in C."""
+    found = {}
+    for result, name, inside in re.findall(r"(\w+)\s+(micro_price_\w+)\s*\(([^)]*)\)\s*;", without_comments(text)):
+        parameters = []
+        for parameter in inside.split(","):
+            c_type, parameter_name = re.fullmatch(r"(.*?)(\w+)", parameter.strip(), re.S).groups()
+            parameters.append((parameter_name, spaced(c_type)))
+        found[name] = (result, parameters)
+    return found
+
+
+def c_parameters(name, rattle_type):
+    """The C parameters of a Rattle parameter: a slice is a pointer and a length, a reference a pointer."""
+    reference, mutable, slice_of, plain = re.fullmatch(r"(&?)(mut )?(?:\[(\w+)\]|(\w+))", rattle_type).groups()
+    c_type = C_TYPES[slice_of or plain]
+    if not reference:
+        return [(name, c_type)]
+    pointer = (name, spaced(("" if mutable else "const ") + c_type + " *"))
+    return [pointer, (name + "_len", "size_t")] if slice_of else [pointer]
+
+
+def declared(text, before, parameters_of):
+    """The functions of a Rattle or Rust text after `before`, in C."""
+    found = {}
+    pattern = before + r"fn\s+(micro_price_\w+)\s*\(([^)]*)\)\s*->\s*(\w+)"
+    for name, inside, result in re.findall(pattern, without_comments(text)):
+        parameters = []
+        for parameter in filter(None, map(str.strip, inside.split(","))):
+            parameter_name, its_type = map(str.strip, parameter.split(":"))
+            parameters += parameters_of(parameter_name, its_type)
+        found[name] = (C_TYPES[result], parameters)
+    return found
+
+
+def rust_parameters(name, rust_type):
+    pointer = re.fullmatch(r"\*(const|mut) (\w+)", rust_type)
+    if not pointer:
+        return [(name, C_TYPES[rust_type])]
+    constant = "const " if pointer[1] == "const" else ""
+    return [(name, spaced(constant + C_TYPES[pointer[2]] + " *"))]
+
+
+def exported(archive):
+    """The global symbols that an archive defines."""
+    lines = subprocess.run(["nm", "--defined-only", "--extern-only", archive], check=True, capture_output=True, text=True)
+    return {line.split()[2] for line in lines.stdout.splitlines() if len(line.split()) == 3}
+
+
+def constants(header):
+    return {name: int(number) for name, number in re.findall(r"#define MICRO_PRICE_(\w+) (\d+)", header)}
+
+
+def numbers(tree):
+    """The numbers of refusals, and of bad words, as the crates have them."""
+    matches = re.findall(r"Refusal::(\w+)(?:\(_\))? => (\d+),", (tree / "crates/quotes/src/inner.rt").read_text())
+    found = {re.sub(r"(?<!^)([A-Z])", r"_\1", name).upper(): int(number) for name, number in matches}
+    bad = re.search(r"const BAD_ENCODING: u64 = (\d+);", (tree / "crates/encoding/src/lib.rt").read_text())
+    found["BAD_ENCODING"] = int(bad[1])
+    return found
+
+
+def differences(header, other, where):
+    for name in sorted(header.keys() - other.keys()):
+        yield f"{name} is in the header and not in {where}"
+    for name in sorted(other.keys() - header.keys()):
+        yield f"{name} is in {where} and not in the header"
+    for name in sorted(header.keys() & other.keys()):
+        yield from signature_differences(name, header[name], other[name], where)
+
+
+def signature_differences(name, header, other, where):
+    if header[0] != other[0]:
+        yield f"{name} answers {header[0]} in the header and {other[0]} by {where}"
+    if len(header[1]) != len(other[1]):
+        yield f"{name} has {len(header[1])} parameters in the header and {len(other[1])} by {where}"
+        return
+    for place, (ours, theirs) in enumerate(zip(header[1], other[1]), 1):
+        if ours != theirs:
+            (a, b), (c, d) = ours, theirs
+            yield f"{name}, parameter {place}: {b} {a} in the header and {d} {c} by {where}"
+
+
+def main():
+    tree, archive = Path(sys.argv[1]), sys.argv[2]
+    text = (tree / "include/micro_price.h").read_text()
+    header = in_header(text)
+    code = "\n".join(file.read_text() for file in sorted((tree / "crates").glob("exports*/src/*.rt")))
+    rust = (tree / "bindings/rust/src/sys.rs").read_text()
+    found = list(differences(header, declared(code, r'pub\s+extern\s+"C"\s+', c_parameters), "crates/exports*"))
+    found += differences(header, declared(rust, r"pub\s+", rust_parameters), "bindings/rust/src/sys.rs")
+    symbols = exported(archive)
+    found += [f"{name} is declared and the archive does not export it" for name in sorted(header.keys() - symbols)]
+    found += [f"the archive exports {name}, which is not declared" for name in sorted(symbols - header.keys())]
+    ours, theirs = constants(text), numbers(tree)
+    for name in sorted(ours.keys() | theirs.keys()):
+        if ours.get(name) != theirs.get(name):
+            found.append(f"MICRO_PRICE_{name} is {ours.get(name)} in the header and {theirs.get(name)} in the crates")
+    for line in found:
+        print(f"header: {line}", file=sys.stderr)
+    if found or not header:
+        sys.exit(1)
+    print(f"header: {len(header)} functions are those of crates/exports*, of bindings/rust and of the archive")
+
+
+if __name__ == "__main__":
+    main()
