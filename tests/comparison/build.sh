@@ -1,11 +1,21 @@
 #!/bin/sh
 # Builds the Rust side of the comparison in target/comparison: the original, the copy that records its floats, and the driver.
 #   build.sh                        the program is target/comparison/target/release/oracle
-#   build.sh --instead FILE FOLDER  the same with FILE instead of the original micro_price.rs, in FOLDER (for mutants.sh)
+#   build.sh --port                 the program compare too, with the port from the archive that MICRO_PRICE_LIB names, or else
+#                                   from target/staticlib/libmicro_price.a
+#   build.sh [--port] --instead FILE FOLDER
+#                                   the same with FILE instead of the original micro_price.rs, in FOLDER (for mutants.sh and
+#                                   faults.sh)
 set -eu
 here=$(cd "$(dirname "$0")" && pwd)
+root=$(cd "$here/../.." && pwd)
 source=$here/original/micro_price.rs
-build=$(cd "$here/../.." && pwd)/target/comparison
+build=$root/target/comparison
+features=
+if [ "${1:-}" = --port ]; then
+    features="--features port"
+    shift
+fi
 if [ "${1:-}" = --instead ]; then
     source=$2
     build=$3
@@ -17,6 +27,12 @@ stop() {
     echo "build.sh: $*" >&2
     exit 1
 }
+
+if [ -n "$features" ]; then
+    MICRO_PRICE_LIB=$(realpath -m "${MICRO_PRICE_LIB:-$root/target/staticlib/libmicro_price.a}")
+    export MICRO_PRICE_LIB
+    [ -f "$MICRO_PRICE_LIB" ] || stop "no archive $MICRO_PRICE_LIB; bindings/library.sh writes it"
+fi
 
 # Rust 1.95 or newer, with cargo.
 version=$(rustc --version 2>/dev/null | cut -d ' ' -f 2) || true
@@ -143,4 +159,5 @@ directory = "$registry"
 TOML
 
 cd "$build"
-cargo build --quiet --release --offline --jobs 1
+# shellcheck disable=SC2086
+cargo build --quiet --release --offline --jobs 1 --package driver $features

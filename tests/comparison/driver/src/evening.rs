@@ -75,7 +75,7 @@ pub fn run(text: &[u8]) -> String {
             evening.gap,
             evening.largest,
             evening.invalid,
-            print_fit(&evening.fit)
+            print_fit(&evening.fitted.fit)
         ),
     }
 }

@@ -22,6 +22,21 @@ impl Config {
         usize::try_from(self.buckets * self.spreads).expect("number of states")
     }
 
+    /// The five words by which a configuration is lent.
+    pub fn words(&self) -> [u64; 5] {
+        [self.tick, self.buckets, self.spreads, self.least, self.gap]
+    }
+
+    pub fn of_words(words: &[u64]) -> Self {
+        Self {
+            tick: words[0],
+            buckets: words[1],
+            spreads: words[2],
+            least: words[3],
+            gap: words[4],
+        }
+    }
+
     pub fn mirror(&self, state: usize) -> usize {
         let buckets = usize::try_from(self.buckets).expect("number of buckets");
         let bucket = state % buckets;
@@ -39,6 +54,21 @@ pub struct Quote {
 }
 
 impl Quote {
+    /// Time, bid, ask, bid size, ask size.
+    pub fn words(&self) -> [u64; 5] {
+        [self.time, self.bid, self.ask, self.bid_size, self.ask_size]
+    }
+
+    pub fn of_words(words: &[u64]) -> Self {
+        Self {
+            time: words[0],
+            bid: words[1],
+            ask: words[2],
+            bid_size: words[3],
+            ask_size: words[4],
+        }
+    }
+
     pub fn over_domain(&self) -> bool {
         [self.bid, self.ask, self.bid_size, self.ask_size]
             .iter()
@@ -67,6 +97,97 @@ impl Tables {
             totals: vec![0; states],
         }
     }
+}
+
+/// The last quote and the counters; `largest` is in half ticks.
+#[derive(Debug, Clone, Copy, PartialEq, Eq, Default)]
+pub struct Record {
+    pub last: Option<Quote>,
+    pub pairs: u64,
+    pub spread: u64,
+    pub gap: u64,
+    pub largest: u64,
+}
+
+impl Record {
+    /// The ten words of a record, in an image and where it is lent: 1 and the last quote or six zeros, then the counters.
+    pub fn words(&self) -> [u64; 10] {
+        let mut words = [0; 10];
+        if let Some(last) = &self.last {
+            words[0] = 1;
+            words[1..6].copy_from_slice(&last.words());
+        }
+        words[6..].copy_from_slice(&[self.pairs, self.spread, self.gap, self.largest]);
+        words
+    }
+
+    pub fn of_words(words: &[u64]) -> Self {
+        Self {
+            last: (words[0] == 1).then(|| Quote::of_words(&words[1..6])),
+            pairs: words[6],
+            spread: words[7],
+            gap: words[8],
+            largest: words[9],
+        }
+    }
+}
+
+/// All that a calibrator holds: configuration, record and the three tables.
+#[derive(Debug, Clone, PartialEq, Eq)]
+pub struct Memory {
+    pub config: Config,
+    pub record: Record,
+    pub stay: Vec<u64>,
+    pub moved: Vec<u64>,
+    pub totals: Vec<i64>,
+}
+
+impl Memory {
+    pub fn new(config: Config) -> Self {
+        Self::of_tables(&Tables::new(config))
+    }
+
+    /// The calibrator with these tables and no last quote and no skips.
+    pub fn of_tables(tables: &Tables) -> Self {
+        Self {
+            config: tables.config,
+            record: Record {
+                pairs: tables.pairs,
+                ..Record::default()
+            },
+            stay: tables.stay.clone(),
+            moved: tables.moved.clone(),
+            totals: tables.totals.clone(),
+        }
+    }
+
+    /// The memory as words, of the tables only the cells that are not zero.
+    pub fn print(&self) -> String {
+        let states = self.totals.len().max(1);
+        let cells = |name: &str, table: &[u64]| -> String {
+            let filled = table.iter().enumerate().filter(|(_, v)| **v != 0);
+            filled
+                .map(|(cell, v)| format!("{name} {} {} {v}\n", cell / states, cell % states))
+                .collect()
+        };
+        let totals = self.totals.iter().enumerate().filter(|(_, v)| **v != 0);
+        format!(
+            "config {}\nrecord {}\n{}{}{}",
+            join(&self.config.words()),
+            join(&self.record.words()),
+            cells("stay", &self.stay),
+            cells("moved", &self.moved),
+            totals
+                .map(|(state, v)| format!("total {state} {v}\n"))
+                .collect::<String>()
+        )
+    }
+}
+
+/// Words with single spaces between them.
+pub fn join<T: ToString>(words: &[T]) -> String {
+    let words: Vec<String> = words.iter().map(T::to_string).collect();
+    words.join(" ")
 }
 
 /// A row of the model table, its floats before they become decimals.

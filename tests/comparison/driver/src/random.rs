@@ -7,7 +7,8 @@ use crate::paper::{Config, Tables};
 pub struct Random(pub u64);
 
 impl Random {
-    fn next(&mut self) -> u64 {
+    /// Any word.
+    pub fn word(&mut self) -> u64 {
         self.0 = self.0.wrapping_add(0x9e37_79b9_7f4a_7c15);
         let z = (self.0 ^ (self.0 >> 30)).wrapping_mul(0xbf58_476d_1ce4_e5b9);
         let z = (z ^ (z >> 27)).wrapping_mul(0x94d0_49bb_1331_11eb);
@@ -16,11 +17,20 @@ impl Random {
 
     /// A number below `limit`.
     pub fn below(&mut self, limit: u64) -> u64 {
-        self.next() % limit
+        self.word() % limit
     }
 
-    fn state(&mut self, states: usize) -> usize {
-        usize::try_from(self.below(states as u64)).expect("a state")
+    /// An index below `length`.
+    pub fn index(&mut self, length: usize) -> usize {
+        usize::try_from(self.below(length as u64)).expect("an index")
+    }
+
+    pub fn one_in(&mut self, times: u64) -> bool {
+        self.below(times) == 0
+    }
+
+    pub fn choose<T: Copy>(&mut self, from: &[T]) -> T {
+        from[self.index(from.len())]
     }
 }
 
@@ -38,7 +48,7 @@ pub fn tables(config: Config, random: &mut Random) -> Tables {
     let mut habits = vec![Habit::Busy; states];
     for x in 0..states {
         if x <= config.mirror(x) {
-            let habit = [Habit::Busy, Habit::Busy, Habit::Quiet, Habit::Seldom][random.state(4)];
+            let habit = [Habit::Busy, Habit::Busy, Habit::Quiet, Habit::Seldom][random.index(4)];
             habits[x] = habit;
             habits[config.mirror(x)] = habit;
         }
@@ -51,7 +61,7 @@ pub fn tables(config: Config, random: &mut Random) -> Tables {
             1 + random.below(4)
         };
         for _ in 0..exits {
-            let to = random.state(states);
+            let to = random.index(states);
             let still = habits[from] == Habit::Quiet;
             if still && habits[to] == Habit::Busy {
                 continue;
@@ -73,7 +83,7 @@ pub fn tables(config: Config, random: &mut Random) -> Tables {
 }
 
 /// Enters `count` pairs and their mirrors.
-fn enter(tables: &mut Tables, from: usize, to: usize, change: i64, count: u64) {
+pub fn enter(tables: &mut Tables, from: usize, to: usize, change: i64, count: u64) {
     let config = tables.config;
     let states = config.states();
     for (from, to, change) in [

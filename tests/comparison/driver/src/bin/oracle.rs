@@ -4,16 +4,18 @@ use std::io::{Read, Write};
 use std::process::ExitCode;
 
 use driver::cases::{self, Case};
-use driver::paper::{Config, print_fit};
+use driver::paper::{Config, join, print_fit};
 use driver::random::{self, Random};
-use driver::{evening, rust};
+use driver::{answers, evening, rust, sample};
 
 const USAGE: &str = "\
 oracle fit < CASES              what the fit of each case answers
 oracle words < CASES            each case as one line of words
 oracle evening < INPUT          what the evening program prints
 oracle tables NAME < INPUT      the tables that an evening's quotes lead to, as a case (the window is not looked at)
-oracle random NAME SEED TICK N S LEAST   a case with random tables";
+oracle random NAME SEED TICK N S LEAST   a case with random tables
+oracle sample SEED              cases of every operation, as lines of words (make_sample.sh describes them)
+oracle answers < LINES          what the Rust answers to such lines";
 
 fn main() -> ExitCode {
     let arguments: Vec<String> = std::env::args().skip(1).collect();
@@ -24,6 +26,8 @@ fn main() -> ExitCode {
         ["evening"] => input().map(|text| evening::run(&text)),
         ["tables", name] => input().and_then(|text| tables(name, &text)),
         ["random", name, numbers @ ..] => random_case(name, numbers),
+        ["sample", seed] => sample_lines(seed),
+        ["answers"] => input().and_then(|text| answer_lines(&text)),
         _ => Err(USAGE.to_string()),
     };
     let printed = answer.and_then(|text| {
@@ -84,4 +88,18 @@ fn random_case(name: &str, numbers: &[&str]) -> Result<String, String> {
         name: name.to_string(),
         tables,
     }))
+}
+
+fn sample_lines(seed: &str) -> Result<String, String> {
+    let seed = seed.parse().map_err(|_| USAGE.to_string())?;
+    Ok(sample::sample(seed).join("\n") + "\n")
+}
+
+fn answer_lines(text: &[u8]) -> Result<String, String> {
+    let text = std::str::from_utf8(text).map_err(|e| e.to_string())?;
+    let answer = |(number, line): (usize, &str)| {
+        let answer = answers::answer(line).ok_or(format!("line {}: no case", number + 1))?;
+        Ok(join(&answer) + "\n")
+    };
+    text.lines().enumerate().map(answer).collect()
 }

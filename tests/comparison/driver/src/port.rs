@@ -1,0 +1,522 @@
+//! The port, asked through its C ABI (include/micro_price.h). Nothing here looks at what is answered; `faults` can change it.
+
+use crate::faults::hits;
+use crate::paper::{Memory, Quote};
+
+/// The answer to words or lengths that are no configuration or record.
+pub const BAD_ENCODING: u64 = 100;
+
+mod abi {
+    unsafe extern "C" {
+        pub fn micro_price_validate(config: *const u64, config_len: usize) -> u64;
+        pub fn micro_price_new(
+            config: *const u64,
+            config_len: usize,
+            rec: *mut u64,
+            rec_len: usize,
+            stay: *mut u64,
+            stay_len: usize,
+            moved: *mut u64,
+            moved_len: usize,
+            totals: *mut i64,
+            totals_len: usize,
+        ) -> u64;
+        pub fn micro_price_observe(
+            config: *const u64,
+            config_len: usize,
+            rec: *mut u64,
+            rec_len: usize,
+            stay: *mut u64,
+            stay_len: usize,
+            moved: *mut u64,
+            moved_len: usize,
+            totals: *mut i64,
+            totals_len: usize,
+            time: u64,
+            bid: u64,
+            ask: u64,
+            bid_size: u64,
+            ask_size: u64,
+        ) -> u64;
+        pub fn micro_price_save(
+            config: *const u64,
+            config_len: usize,
+            rec: *const u64,
+            rec_len: usize,
+            stay: *const u64,
+            stay_len: usize,
+            moved: *const u64,
+            moved_len: usize,
+            totals: *const i64,
+            totals_len: usize,
+            out: *mut u8,
+            out_len: usize,
+        ) -> u64;
+        pub fn micro_price_restore(
+            image: *const u8,
+            image_len: usize,
+            config: *mut u64,
+            config_len: usize,
+            rec: *mut u64,
+            rec_len: usize,
+            stay: *mut u64,
+            stay_len: usize,
+            moved: *mut u64,
+            moved_len: usize,
+            totals: *mut i64,
+            totals_len: usize,
+        ) -> u64;
+        pub fn micro_price_fit_counts(
+            config: *const u64,
+            config_len: usize,
+            rec: *const u64,
+            rec_len: usize,
+            stay: *const u64,
+            stay_len: usize,
+            moved: *const u64,
+            moved_len: usize,
+            totals: *const i64,
+            totals_len: usize,
+            scratch: *mut f64,
+            scratch_len: usize,
+            model: *mut u64,
+            model_len: usize,
+        ) -> u64;
+        pub fn micro_price_check_model(
+            config: *const u64,
+            config_len: usize,
+            model: *const u64,
+            model_len: usize,
+            row: *mut u64,
+        ) -> u64;
+        pub fn micro_price_signal(
+            config: *const u64,
+            config_len: usize,
+            model: *const u64,
+            model_len: usize,
+            time: u64,
+            bid: u64,
+            ask: u64,
+            bid_size: u64,
+            ask_size: u64,
+            out: *mut u64,
+            out_len: usize,
+            row: *mut u64,
+        ) -> u64;
+        pub fn micro_price_window_of(
+            recording: *const u64,
+            recording_len: usize,
+            start: u64,
+            end: u64,
+            first: *mut u64,
+            past: *mut u64,
+        ) -> u64;
+        pub fn micro_price_calibrate(
+            config: *const u64,
+            config_len: usize,
+            rec: *mut u64,
+            rec_len: usize,
+            stay: *mut u64,
+            stay_len: usize,
+            moved: *mut u64,
+            moved_len: usize,
+            totals: *mut i64,
+            totals_len: usize,
+            recording: *const u64,
+            recording_len: usize,
+            start: u64,
+            end: u64,
+            scratch: *mut f64,
+            scratch_len: usize,
+            model: *mut u64,
+            model_len: usize,
+            invalid: *mut u64,
+        ) -> u64;
+        pub fn micro_price_replay(
+            config: *const u64,
+            config_len: usize,
+            rec: *mut u64,
+            rec_len: usize,
+            stay: *mut u64,
+            stay_len: usize,
+            moved: *mut u64,
+            moved_len: usize,
+            totals: *mut i64,
+            totals_len: usize,
+            calls: *const u64,
+            calls_len: usize,
+            room: *mut u8,
+            room_len: usize,
+            answers: *mut u64,
+            answers_len: usize,
+        ) -> u64;
+    }
+}
+
+/// The memory that a calibrator is lent, of any lengths and content.
+#[derive(Debug, Clone, PartialEq, Eq)]
+pub struct Lent {
+    pub config: Vec<u64>,
+    pub rec: Vec<u64>,
+    pub stay: Vec<u64>,
+    pub moved: Vec<u64>,
+    pub totals: Vec<i64>,
+}
+
+impl Lent {
+    pub fn of(memory: &Memory) -> Self {
+        Self {
+            config: memory.config.words().to_vec(),
+            rec: memory.record.words().to_vec(),
+            stay: memory.stay.clone(),
+            moved: memory.moved.clone(),
+            totals: memory.totals.clone(),
+        }
+    }
+
+    pub fn start_new(&mut self) -> u64 {
+        // SAFETY: each pointer and length is that of a slice, and each slice that is written is borrowed for the call alone.
+        unsafe {
+            abi::micro_price_new(
+                self.config.as_ptr(),
+                self.config.len(),
+                self.rec.as_mut_ptr(),
+                self.rec.len(),
+                self.stay.as_mut_ptr(),
+                self.stay.len(),
+                self.moved.as_mut_ptr(),
+                self.moved.len(),
+                self.totals.as_mut_ptr(),
+                self.totals.len(),
+            )
+        }
+    }
+
+    pub fn observe(&mut self, quote: &Quote) -> u64 {
+        let mut given = *quote;
+        let before = self.rec.clone();
+        if hits("bucket_swapped", &quote.words()) {
+            std::mem::swap(&mut given.bid_size, &mut given.ask_size);
+        }
+        let answer = self.observe_given(&given);
+        self.observe_faults(quote, &before, answer)
+    }
+
+    fn observe_given(&mut self, quote: &Quote) -> u64 {
+        // SAFETY: as in `start_new`.
+        unsafe {
+            abi::micro_price_observe(
+                self.config.as_ptr(),
+                self.config.len(),
+                self.rec.as_mut_ptr(),
+                self.rec.len(),
+                self.stay.as_mut_ptr(),
+                self.stay.len(),
+                self.moved.as_mut_ptr(),
+                self.moved.len(),
+                self.totals.as_mut_ptr(),
+                self.totals.len(),
+                quote.time,
+                quote.bid,
+                quote.ask,
+                quote.bid_size,
+                quote.ask_size,
+            )
+        }
+    }
+
+    fn observe_faults(&mut self, quote: &Quote, before: &[u64], answer: u64) -> u64 {
+        let hit = |name: &str| hits(name, &quote.words());
+        if answer == 0 {
+            if hit("count_plus_one") && self.rec[6] > before[6] {
+                self.stay[0] += 1;
+            }
+            if hit("last_kept") && self.rec[8] > before[8] {
+                self.rec[..6].copy_from_slice(&before[..6]);
+            }
+            if hit("gap_at_limit")
+                && self.rec[6] > before[6]
+                && quote.time - before[1] == self.config[4]
+            {
+                self.rec[6] -= 1;
+                self.rec[8] += 1;
+            }
+            if hit("largest_lost") {
+                self.rec[9] = before[9];
+            }
+            if hit("total_sign") && self.rec[6] > before[6] {
+                self.totals[0] = -self.totals[0];
+            }
+        }
+        match answer {
+            5 if hit("time_as_bad") => 3,
+            6 if hit("limit_ignored") => 0,
+            3 | 4 if hit("refusal_writes") => {
+                self.rec[1] = self.rec[0] * quote.time;
+                answer
+            }
+            _ => answer,
+        }
+    }
+
+    pub fn save(&self, out: &mut [u8]) -> u64 {
+        // SAFETY: as in `start_new`.
+        let answer = unsafe {
+            abi::micro_price_save(
+                self.config.as_ptr(),
+                self.config.len(),
+                self.rec.as_ptr(),
+                self.rec.len(),
+                self.stay.as_ptr(),
+                self.stay.len(),
+                self.moved.as_ptr(),
+                self.moved.len(),
+                self.totals.as_ptr(),
+                self.totals.len(),
+                out.as_mut_ptr(),
+                out.len(),
+            )
+        };
+        if answer == 0 && hits("image_byte", &self.rec) {
+            out[170] ^= 1;
+        }
+        if answer != 0 && !out.is_empty() && hits("save_refusal_writes", &self.rec) {
+            out[0] ^= 1;
+        }
+        answer
+    }
+
+    pub fn restore(&mut self, image: &[u8]) -> u64 {
+        // SAFETY: as in `start_new`.
+        let answer = unsafe {
+            abi::micro_price_restore(
+                image.as_ptr(),
+                image.len(),
+                self.config.as_mut_ptr(),
+                self.config.len(),
+                self.rec.as_mut_ptr(),
+                self.rec.len(),
+                self.stay.as_mut_ptr(),
+                self.stay.len(),
+                self.moved.as_mut_ptr(),
+                self.moved.len(),
+                self.totals.as_mut_ptr(),
+                self.totals.len(),
+            )
+        };
+        match answer {
+            0 if hits("restored_gap", &self.rec) => {
+                self.rec[8] = 0;
+                0
+            }
+            11 if hits("restore_unchecked", &[image.len() as u64]) => 0,
+            10 if hits("restore_order", &[u64::from(image[160])]) => 9,
+            _ => answer,
+        }
+    }
+
+    pub fn fit(&self, scratch: &mut [f64], model: &mut [u64]) -> u64 {
+        // SAFETY: as in `start_new`.
+        let answer = unsafe {
+            abi::micro_price_fit_counts(
+                self.config.as_ptr(),
+                self.config.len(),
+                self.rec.as_ptr(),
+                self.rec.len(),
+                self.stay.as_ptr(),
+                self.stay.len(),
+                self.moved.as_ptr(),
+                self.moved.len(),
+                self.totals.as_ptr(),
+                self.totals.len(),
+                scratch.as_mut_ptr(),
+                scratch.len(),
+                model.as_mut_ptr(),
+                model.len(),
+            )
+        };
+        fit_faults(&self.stay, scratch, model, answer)
+    }
+
+    /// An evening; `invalid` is written as the port writes it.
+    pub fn calibrate(
+        &mut self,
+        recording: &[u64],
+        window: (u64, u64),
+        room: &mut Room,
+        invalid: &mut u64,
+    ) -> u64 {
+        // SAFETY: as in `start_new`.
+        let answer = unsafe {
+            abi::micro_price_calibrate(
+                self.config.as_ptr(),
+                self.config.len(),
+                self.rec.as_mut_ptr(),
+                self.rec.len(),
+                self.stay.as_mut_ptr(),
+                self.stay.len(),
+                self.moved.as_mut_ptr(),
+                self.moved.len(),
+                self.totals.as_mut_ptr(),
+                self.totals.len(),
+                recording.as_ptr(),
+                recording.len(),
+                window.0,
+                window.1,
+                room.scratch.as_mut_ptr(),
+                room.scratch.len(),
+                room.model.as_mut_ptr(),
+                room.model.len(),
+                invalid,
+            )
+        };
+        self.calibrate_faults(recording, invalid, answer)
+    }
+
+    fn calibrate_faults(&mut self, recording: &[u64], invalid: &mut u64, answer: u64) -> u64 {
+        if matches!(answer, 0 | 16..=19) {
+            if *invalid > 0 && hits("invalid_dropped", recording) {
+                *invalid -= 1;
+            }
+            if hits("evening_last", recording) {
+                self.rec[..6].fill(0);
+            }
+        }
+        answer
+    }
+
+    pub fn replay(&mut self, calls: &[u64], room: &mut [u8], answers: &mut [u64]) -> u64 {
+        // SAFETY: as in `start_new`.
+        let answer = unsafe {
+            abi::micro_price_replay(
+                self.config.as_ptr(),
+                self.config.len(),
+                self.rec.as_mut_ptr(),
+                self.rec.len(),
+                self.stay.as_mut_ptr(),
+                self.stay.len(),
+                self.moved.as_mut_ptr(),
+                self.moved.len(),
+                self.totals.as_mut_ptr(),
+                self.totals.len(),
+                calls.as_ptr(),
+                calls.len(),
+                room.as_mut_ptr(),
+                room.len(),
+                answers.as_mut_ptr(),
+                answers.len(),
+            )
+        };
+        if answer == 0 && hits("replay_answer", calls) && answers.last() == Some(&0) {
+            *answers.last_mut().expect("an answer") = 5;
+        }
+        answer
+    }
+}
+
+/// Scratch and model table for a fit.
+#[derive(Debug, Clone, PartialEq)]
+pub struct Room {
+    pub scratch: Vec<f64>,
+    pub model: Vec<u64>,
+}
+
+impl Room {
+    /// The room for so many states, holding neither zeros nor a model.
+    pub fn used(states: usize) -> Self {
+        Self {
+            scratch: vec![7.25; states * (2 * states + 10)],
+            model: vec![0x5555; 7 * states],
+        }
+    }
+}
+
+fn fit_faults(stay: &[u64], scratch: &mut [f64], model: &mut [u64], answer: u64) -> u64 {
+    let hit = |name: &str| hits(name, stay);
+    if answer == 0 {
+        for row in model.chunks_mut(7) {
+            if hit("last_bit") && row[4] != 0 {
+                row[4] ^= 1;
+            }
+            if hit("minus_zero") && row[3] == 0 {
+                row[3] = 1 << 63;
+            }
+            if hit("status") && row[6] == 3 {
+                row[6] = 0;
+            }
+            if hit("observations") {
+                row[2] += 1;
+            }
+        }
+    }
+    if hit("scratch_left") && matches!(answer, 0 | 16..=19) {
+        scratch[0] = 1.0;
+    }
+    if hit("fit_refusal") && answer == 18 {
+        return 17;
+    }
+    answer
+}
+
+pub fn validate(config: &[u64]) -> u64 {
+    // SAFETY: as in `Lent::start_new`.
+    unsafe { abi::micro_price_validate(config.as_ptr(), config.len()) }
+}
+
+pub fn check_model(config: &[u64], model: &[u64], row: &mut u64) -> u64 {
+    // SAFETY: as in `Lent::start_new`.
+    let answer = unsafe {
+        abi::micro_price_check_model(
+            config.as_ptr(),
+            config.len(),
+            model.as_ptr(),
+            model.len(),
+            row,
+        )
+    };
+    if answer == 13 && hits("row_one_on", model) {
+        *row += 1;
+    }
+    if answer == 13 && hits("model_accepted", model) {
+        return 0;
+    }
+    answer
+}
+
+pub fn signal(config: &[u64], model: &[u64], quote: &Quote, out: &mut [u64], row: &mut u64) -> u64 {
+    // SAFETY: as in `Lent::start_new`.
+    let answer = unsafe {
+        abi::micro_price_signal(
+            config.as_ptr(),
+            config.len(),
+            model.as_ptr(),
+            model.len(),
+            quote.time,
+            quote.bid,
+            quote.ask,
+            quote.bid_size,
+            quote.ask_size,
+            out.as_mut_ptr(),
+            out.len(),
+            row,
+        )
+    };
+    if answer == 0 && out[2] != 0 && hits("signal_sign", &quote.words()) {
+        out[2] ^= 1 << 63;
+    }
+    if answer == 0 && out[3] == 1 && hits("signal_source", &quote.words()) {
+        out[3] = 2;
+    }
+    answer
+}
+
+pub fn window_of(recording: &[u64], start: u64, end: u64, first: &mut u64, past: &mut u64) -> u64 {
+    // SAFETY: as in `Lent::start_new`.
+    let answer = unsafe {
+        abi::micro_price_window_of(recording.as_ptr(), recording.len(), start, end, first, past)
+    };
+    if answer == 0 && hits("window_past", recording) {
+        *past += 1;
+    }
+    answer
+}
