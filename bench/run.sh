@@ -1,11 +1,14 @@
 #!/bin/sh
-# Builds the original, plain Rust and the port for release, and prints their times side by side.
+# Proves and writes the port's archive, builds the original and plain Rust for release, and prints the times side by side.
 #   bench/run.sh    the port is target/staticlib/libmicro_price.a, or the archive that MICRO_PRICE_LIB names
 set -eu
 here=$(cd "$(dirname "$0")" && pwd)
 root=$(cd "$here/.." && pwd)
 build=$root/target/bench
 
+if [ -z "${MICRO_PRICE_LIB:-}" ]; then
+    "$root/bindings/library.sh"
+fi
 "$root/tests/comparison/build.sh"
 mkdir -p "$build/.cargo"
 cp -pR "$here/Cargo.toml" "$here/src" "$build/"
