@@ -3,7 +3,7 @@
 
 Holds the functions that TREE/include/micro_price.h declares against the symbols that ARCHIVE exports, and their parameters
 against crates/exports*, where they are written, and against bindings/rust/src/sys.rs, where Rust declares them. Holds the
-header's numbers against crates/quotes and crates/encoding. Prints each mismatch and ends with status 1 if there is one.
+header's numbers against crates/refusals and crates/encoding. Prints each mismatch and ends with status 1 if there is one.
 """
 import re
 import subprocess
@@ -77,7 +77,7 @@ def constants(header):
 
 def numbers(tree):
     """The numbers of refusals, and of bad words, as the crates have them."""
-    matches = re.findall(r"Refusal::(\w+)(?:\(_\))? => (\d+),", (tree / "crates/quotes/src/inner.rt").read_text())
+    matches = re.findall(r"Refusal::(\w+)(?:\(_\))? => (\d+),", (tree / "crates/refusals/src/lib.rt").read_text())
     found = {re.sub(r"(?<!^)([A-Z])", r"_\1", name).upper(): int(number) for name, number in matches}
     bad = re.search(r"const BAD_ENCODING: u64 = (\d+);", (tree / "crates/encoding/src/lib.rt").read_text())
     found["BAD_ENCODING"] = int(bad[1])

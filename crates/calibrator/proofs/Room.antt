@@ -5,13 +5,13 @@ use mathlib.Core.Bool.{false, not, _||_}
 use lib.Dec.{eqb}
 use borrow.Author.Tests.{eqb-true, not-false}
 use Rattle.basics.proofs.Tests.{neither}
-use Rattle.quotes.specs.Configuration.{states, valid, checkConfig}
-use Rattle.quotes.specs.Known.{Valid}
-use Rattle.quotes.specs.Refusals.{refuseIf}
-use Rattle.quotes.specs.declared.Check.the-variants.{Fine}
-use Rattle.quotes.specs.declared.MicroPriceConfig.{MicroPriceConfig}
-use Rattle.quotes.proofs.Known.{valid-known}
-use Rattle.quotes.proofs.Refusals.{if-fine, first-fine}
+use Rattle.refusals.specs.Refusals.{refuseIf}
+use Rattle.refusals.specs.declared.Check.the-variants.{Fine}
+use Rattle.refusals.proofs.Refusals.{if-fine, first-fine}
+use Rattle.config.specs.Configuration.{states, valid, checkConfig}
+use Rattle.config.specs.Known.{Valid}
+use Rattle.config.specs.declared.MicroPriceConfig.{MicroPriceConfig}
+use Rattle.config.proofs.Known.{valid-known}
 use Rattle.calibrator.specs.Observe.{wrongLengths, checkRoom}
 
 pub record RightLengths (n stay moved totals : ℕ) : Type 0 where

@@ -7,22 +7,23 @@ use native.Mathlib.Omega.{arith}
 use lib.IntN.{ℤ, pos}
 use lib.ListN.{length, replicate}
 use borrow.Author.Tests.{ltb-false, not-false, not-true}
-use Rattle.quotes.specs.Configuration.{states}
-use Rattle.quotes.specs.Known.{Valid, Accepted}
+use Rattle.refusals.specs.Refusals.{refuseIf, firstOf, refusal}
+use Rattle.refusals.specs.declared.Check.{Check}
+use Rattle.refusals.specs.declared.Check.the-variants.{Fine, Refused}
+use Rattle.refusals.specs.declared.Refusal.{Refusal}
+use Rattle.refusals.proofs.Refusals.{if-fine, first-fine}
+use Rattle.config.specs.Configuration.{states}
+use Rattle.config.specs.Known.{Valid}
+use Rattle.config.specs.declared.MicroPriceConfig.{MicroPriceConfig}
+use Rattle.quotes.specs.Known.{Accepted}
 use Rattle.quotes.specs.Quotes.{checkQuote}
-use Rattle.quotes.specs.Refusals.{refuseIf, firstOf, refusal}
 use Rattle.quotes.specs.Neighbours.{neighboursOf}
-use Rattle.quotes.specs.declared.Check.{Check}
-use Rattle.quotes.specs.declared.Check.the-variants.{Fine, Refused}
-use Rattle.quotes.specs.declared.MicroPriceConfig.{MicroPriceConfig}
 use Rattle.quotes.specs.declared.Neighbours.the-variants.{Counted}
 use Rattle.quotes.specs.declared.Pair.{Pair}
-use Rattle.quotes.specs.declared.Refusal.{Refusal}
 use Rattle.quotes.specs.declared.Skip.{Skip}
 use Rattle.quotes.specs.declared.Skip.the-variants.{Gap, Spread}
 use Rattle.quotes.specs.declared.TopOfBook.{TopOfBook}
 use Rattle.quotes.proofs.Known.{fine-known}
-use Rattle.quotes.proofs.Refusals.{if-fine, first-fine}
 use Rattle.quotes.proofs.Pairs.{counted-made}
 use Rattle.quotes.proofs.States.{place-located}
 use Rattle.quotes.proofs.Ticks.{half-ticks-most}

@@ -4,14 +4,14 @@ use mathlib.Core.Bool.{Bool, true, false, not, _||_}
 use lib.Dec.{ltb, eqb}
 use lib.ListN.{length}
 use Rattle.signed.specs.Totals.{change}
-use Rattle.quotes.specs.Refusals.{refuseIf, firstOf}
-use Rattle.quotes.specs.Configuration.{states, checkConfig}
+use Rattle.refusals.specs.Refusals.{refuseIf, firstOf}
+use Rattle.refusals.specs.declared.Check.{Check}
+use Rattle.refusals.specs.declared.Check.the-variants.{Fine, Refused}
+use Rattle.config.specs.Configuration.{states, checkConfig}
+use Rattle.config.specs.declared.MicroPriceConfig.{MicroPriceConfig}
 use Rattle.quotes.specs.Quotes.{checkQuote}
 use Rattle.quotes.specs.States.{mirrorOf}
 use Rattle.quotes.specs.Neighbours.{neighboursOf}
-use Rattle.quotes.specs.declared.Check.{Check}
-use Rattle.quotes.specs.declared.Check.the-variants.{Fine, Refused}
-use Rattle.quotes.specs.declared.MicroPriceConfig.{MicroPriceConfig}
 use Rattle.quotes.specs.declared.Neighbours.{Neighbours}
 use Rattle.quotes.specs.declared.Neighbours.the-variants.{Skipped, Counted}
 use Rattle.quotes.specs.declared.TopOfBook.{TopOfBook}

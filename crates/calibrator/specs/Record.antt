@@ -3,11 +3,11 @@ use Prim.Native.Nat.{ℕ, _+_, _≤_, max}
 use mathlib.Core.List.{List, [], _∷_}
 use lib.IntN.{ℤ, natAbs}
 use Rattle.signed.specs.Totals.{change}
-use Rattle.quotes.specs.Refusals.{refusal}
+use Rattle.refusals.specs.Refusals.{refusal}
+use Rattle.refusals.specs.declared.Check.{Check}
+use Rattle.refusals.specs.declared.Check.the-variants.{Fine, Refused}
+use Rattle.config.specs.declared.MicroPriceConfig.{MicroPriceConfig}
 use Rattle.quotes.specs.Known.{Located}
-use Rattle.quotes.specs.declared.MicroPriceConfig.{MicroPriceConfig}
-use Rattle.quotes.specs.declared.Check.{Check}
-use Rattle.quotes.specs.declared.Check.the-variants.{Fine, Refused}
 use Rattle.quotes.specs.declared.Pair.{Pair}
 use Rattle.quotes.specs.declared.Skip.{Skip}
 use Rattle.quotes.specs.declared.Skip.the-variants.{Gap, Spread}

@@ -3,13 +3,13 @@ use super::Counters;
 use super::Done;
 use super::Previous;
 use super::Record;
-use quotes::Check;
-use quotes::MicroPriceConfig;
+use config::MicroPriceConfig;
 use quotes::Neighbours;
 use quotes::Pair;
-use quotes::Refusal;
 use quotes::Skip;
 use quotes::TopOfBook;
+use refusals::Check;
+use refusals::Refusal;
 use tally::PairEntry;
 ghost use mathlib.Core.Path.{_≡_};
 ghost use mathlib.Core.Bool.{false};
@@ -17,9 +17,10 @@ ghost use Prim.Native.Nat.{ℕ, _+_, _*_, _≤_, _<_, _^_};
 ghost use lib.ListN.{length, replicate};
 ghost use lib.IntN.{ℤ, pos};
 ghost use mathlib.Core.List.{List};
-ghost use Rattle.quotes.specs.Configuration.{states};
+ghost use Rattle.config.specs.Configuration.{states};
+ghost use Rattle.config.specs.Known.{Valid};
 ghost use Rattle.quotes.specs.Neighbours.{neighboursOf};
-ghost use Rattle.quotes.specs.Known.{Valid, Accepted};
+ghost use Rattle.quotes.specs.Known.{Accepted};
 ghost use Rattle.quotes.specs.Quotes.{checkQuote};
 ghost use Rattle.tally.specs.Events.{skip};
 ghost use Rattle.calibrator.specs.Record.{ended, memory, skipCount, addSkip, addPair, accepted, limited, pickDone, noCounters, entryOf, kindOf, Countable};
@@ -37,10 +38,10 @@ pub fn wrong_lengths(n: usize, stay: usize, moved: usize, totals: usize) -> bool
 pub fn check_room(c: MicroPriceConfig, stay: usize, moved: usize, totals: usize) -> Check
     ensures { λ r. ⌜ r ≡ checkRoom c stay moved totals ⌝ }
 {
-    if !quotes::inner::is_valid(c) {
+    if !config::inner::is_valid(c) {
         return Check::Refused(Refusal::Configuration);
     }
-    if wrong_lengths(quotes::inner::state_count(c), stay, moved, totals) {
+    if wrong_lengths(config::inner::state_count(c), stay, moved, totals) {
         return Check::Refused(Refusal::SliceLength);
     }
     Check::Fine
@@ -163,7 +164,7 @@ fn count_pair(
     requires { ⌜ Valid c × Countable c pair × (wrongLengths (states c) (length (now stay)) (length (now moved)) (length (now totals)) ≡ false) ⌝ }
     ensures { λ d. ⌜ ended (d .answer) (d .next) (now (stay .exit)) (now (moved .exit)) (now (totals .exit)) ≡ countedAs c (memory rec (now (stay .entry)) (now (moved .entry)) (now (totals .entry))) quote (eventFrom (Neighbours.Counted pair)) ⌝ }
 {
-    let n = quotes::inner::state_count(c);
+    let n = config::inner::state_count(c);
     let e = entry_of(pair);
     let counters = rec.counters;
     if !tally::may_count(counters.pairs) {

@@ -1,7 +1,7 @@
 // The calibrator: new and one quote (document 01, "New, and one quote"). Its record and tables are lent.
-use quotes::Check;
-use quotes::MicroPriceConfig;
+use config::MicroPriceConfig;
 use quotes::TopOfBook;
+use refusals::Check;
 
 pub mod inner;
 

@@ -9,15 +9,15 @@ use borrow.Author.Tests.{eq-eqb}
 use lib.ListN.{length}
 use lib.Ieee.{Float, eq}
 use Rattle.floats.specs.Floats.{posZero}
-use Rattle.quotes.specs.Configuration.{states, valid}
+use Rattle.refusals.specs.Refusals.{numberOf, refusal, refuseIf, firstOf}
+use Rattle.refusals.specs.declared.Check.{Check}
+use Rattle.refusals.specs.declared.Check.the-variants as Check
+use Rattle.refusals.specs.declared.Refusal.{Refusal}
+use Rattle.refusals.specs.declared.Refusal.the-variants.{ModelRow}
+use Rattle.config.specs.Configuration.{states, valid}
+use Rattle.config.specs.declared.MicroPriceConfig.{MicroPriceConfig}
 use Rattle.quotes.specs.Quotes.{exchanged}
-use Rattle.quotes.specs.Refusals.{numberOf, refusal, refuseIf, firstOf}
 use Rattle.quotes.specs.States.{mirrorOf}
-use Rattle.quotes.specs.declared.Check.{Check}
-use Rattle.quotes.specs.declared.Check.the-variants as Check
-use Rattle.quotes.specs.declared.MicroPriceConfig.{MicroPriceConfig}
-use Rattle.quotes.specs.declared.Refusal.{Refusal}
-use Rattle.quotes.specs.declared.Refusal.the-variants.{ModelRow}
 use Rattle.quotes.specs.declared.TopOfBook.{TopOfBook}
 use Rattle.quotes.proofs.States.{state-located}
 use Rattle.tally.specs.Rules.{Memory}
@@ -32,7 +32,7 @@ use Rattle.model.proofs.Rows.{row-held}
 use Rattle.fit.specs.Fit.{fitOf, givenOf, wrongRoom, fitRefusal, fitUnless, fitCounts}
 use Rattle.fit.specs.Models.{RowsOpposite, Inside, RowOf}
 use Rattle.fit.proofs.Models.{fit-valid, table-long, fit-written, fit-mirrors, calibrated-inside, fit-numbers}
-use Rattle.signals.specs.Check.{checkRow, checkModel}
+use Rattle.model_check.specs.Check.{checkRow, checkModel}
 use Rattle.signals.specs.Claims.{RowsMirror, AnswersMirror}
 use Rattle.signals.specs.Signal.{signalOf}
 use Rattle.signals.specs.declared.Signalled.the-variants.{Refused}

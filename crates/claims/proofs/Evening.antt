@@ -10,15 +10,15 @@ use lib.Ieee.{Float}
 use borrow.Author.Tests.{not-false}
 use Rattle.basics.specs.Lists.{bit, tab}
 use Rattle.words.specs.Words.{AllWords}
-use Rattle.quotes.specs.Configuration.{states, valid, checkConfig}
+use Rattle.refusals.specs.Refusals.{numberOf, refusal, refuseIf, firstOf}
+use Rattle.refusals.specs.declared.Check.{Check}
+use Rattle.refusals.specs.declared.Check.the-variants as Check
+use Rattle.refusals.specs.declared.Refusal.{Refusal}
+use Rattle.refusals.proofs.Refusals.{if-fine, first-fine}
+use Rattle.config.specs.Configuration.{states, valid, checkConfig}
+use Rattle.config.specs.declared.MicroPriceConfig.{MicroPriceConfig}
 use Rattle.quotes.specs.Quotes.{over as overDomain, bad, offTick, checkQuote}
-use Rattle.quotes.specs.Refusals.{numberOf, refusal, refuseIf, firstOf}
-use Rattle.quotes.specs.declared.Check.{Check}
-use Rattle.quotes.specs.declared.Check.the-variants as Check
-use Rattle.quotes.specs.declared.MicroPriceConfig.{MicroPriceConfig}
-use Rattle.quotes.specs.declared.Refusal.{Refusal}
 use Rattle.quotes.specs.declared.TopOfBook.{TopOfBook}
-use Rattle.quotes.proofs.Refusals.{if-fine, first-fine}
 use Rattle.tally.specs.Limits.{over}
 use Rattle.tally.specs.Rules.{Memory}
 use Rattle.calibrator.specs.Observe.{wrongLengths, earlier, fresh, observed}
@@ -30,7 +30,7 @@ use Rattle.recording.specs.Observe.{isInvalid, isStop, RecordedOutcome, recorde
 use Rattle.recording.proofs.Recordings.{sorted-filter}
 use Rattle.recording.proofs.Runs.{goes-on}
 use Rattle.recording.proofs.Histories.{Ended, new-answers, new-left, new-invalid}
-use Rattle.image.specs.Layout.{previousWords}
+use Rattle.layout.specs.Layout.{previousWords}
 use Rattle.history.specs.Calls.{quote, observes, run, History, gains, historyMemory, historyRefusal, Past, newPast, tellQuote, tell, story, OwnImages, ConfigWords}
 use Rattle.history.specs.Demand.{left, historyOf}
 use Rattle.fit.specs.Fit.{wrongRoom, fitRefusal, fitCounts}

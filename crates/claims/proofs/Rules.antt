@@ -12,12 +12,12 @@ use lib.Ieee.Bits.{is-true, ofBits-toBits}
 use lib.Ieee.Scale.{finite}
 use Rattle.basics.proofs.Tests.{fails}
 use Rattle.floats.specs.Floats.{posZero, negZero, one, abs, plusZero, toBits, minusZero}
-use Rattle.quotes.specs.declared.MicroPriceConfig.{MicroPriceConfig}
+use Rattle.config.specs.declared.MicroPriceConfig.{MicroPriceConfig}
 use Rattle.model.specs.declared.StateEstimate.{StateEstimate}
 use Rattle.model.specs.declared.StateStatus.the-variants.{Calibrated, Rare, NoPriceMove, OutsideQuotes}
 use Rattle.model.proofs.Rows.{Held}
 use Rattle.fit.specs.Models.{Opposite, RowsOpposite, Inside, RowOf}
-use Rattle.signals.specs.Check.{halfSpreadOf, hasStatus, floatsFinite, noMinusZero, shareInRange, fallbackAtMid, insideQuotes, outsideQuotes, rowFine}
+use Rattle.model_check.specs.Check.{halfSpreadOf, hasStatus, floatsFinite, noMinusZero, shareInRange, fallbackAtMid, insideQuotes, outsideQuotes, rowFine}
 use Rattle.signals.specs.Signal.{rowServes}
 
 -- ---- floats

@@ -6,10 +6,10 @@ use mathlib.Core.List.{List, [], _∷_, _++_, map}
 use lib.Dec.{eqb}
 use lib.Ieee.{Float}
 use Rattle.basics.specs.Lists.{any, count}
-use Rattle.quotes.specs.Refusals.{numberOf}
-use Rattle.quotes.specs.declared.Check.the-variants as Check
-use Rattle.quotes.specs.declared.MicroPriceConfig.{MicroPriceConfig}
-use Rattle.quotes.specs.declared.Refusal.{Refusal}
+use Rattle.refusals.specs.Refusals.{numberOf}
+use Rattle.refusals.specs.declared.Check.the-variants as Check
+use Rattle.refusals.specs.declared.Refusal.{Refusal}
+use Rattle.config.specs.declared.MicroPriceConfig.{MicroPriceConfig}
 use Rattle.quotes.specs.declared.TopOfBook.{TopOfBook}
 use Rattle.tally.specs.Limits.{over}
 use Rattle.tally.specs.Rules.{Memory}

@@ -6,21 +6,21 @@ use mathlib.Core.List.{List}
 use mathlib.Core.Logic.{_⊎_}
 use lib.Ieee.{Float, eq}
 use Rattle.floats.specs.Floats.{posZero}
-use Rattle.quotes.specs.Configuration.{states}
+use Rattle.refusals.specs.Refusals.{numberOf, refuseIf}
+use Rattle.refusals.specs.declared.Check.the-variants as Check
+use Rattle.refusals.specs.declared.Refusal.{Refusal}
+use Rattle.refusals.specs.declared.Refusal.the-variants.{ModelRow}
+use Rattle.config.specs.Configuration.{states}
+use Rattle.config.specs.declared.MicroPriceConfig.{MicroPriceConfig}
 use Rattle.quotes.specs.Quotes.{exchanged}
-use Rattle.quotes.specs.Refusals.{numberOf, refuseIf}
 use Rattle.quotes.specs.States.{mirrorOf}
-use Rattle.quotes.specs.declared.Check.the-variants as Check
-use Rattle.quotes.specs.declared.MicroPriceConfig.{MicroPriceConfig}
-use Rattle.quotes.specs.declared.Refusal.{Refusal}
-use Rattle.quotes.specs.declared.Refusal.the-variants.{ModelRow}
 use Rattle.quotes.specs.declared.TopOfBook.{TopOfBook}
 use Rattle.history.specs.Calls.{Call}
 use Rattle.history.specs.Demand.{left, Demand3}
 use Rattle.model.specs.Rows.{rowAt}
 use Rattle.fit.specs.Fit.{wrongRoom, fitRefusal, fitCounts}
 use Rattle.fit.specs.Models.{RowsOpposite, Inside}
-use Rattle.signals.specs.Check.{checkModel}
+use Rattle.model_check.specs.Check.{checkModel}
 use Rattle.signals.specs.Claims.{Within, AnswersMirror}
 use Rattle.signals.specs.Signal.{signalOf}
 use Rattle.signals.specs.declared.MicroPriceSignal.{MicroPriceSignal}

@@ -9,15 +9,15 @@ use lib.ListN.{length, getD, set}
 use borrow.Author.Tests.{eqb-true, eq-eqb, ne-eqb}
 use Rattle.basics.proofs.Tests.{both, fails, eqb-same}
 use Rattle.basics.proofs.Lists.{tab-getD}
-use Rattle.quotes.specs.declared.MicroPriceConfig.{MicroPriceConfig}
+use Rattle.config.specs.declared.MicroPriceConfig.{MicroPriceConfig}
 use Rattle.calibrator.specs.Record.{memory, countsOf}
 use Rattle.calibrator.specs.declared.Counters.{Counters}
 use Rattle.calibrator.specs.declared.Previous.{Previous}
 use Rattle.calibrator.specs.declared.Previous.the-variants.{Nothing, Quoted}
 use Rattle.calibrator.specs.declared.Record.{Record}
 use Rattle.tally.specs.Entries.{Tables, tables}
-use Rattle.image.specs.Layout.{previousWords, recordWords}
-use Rattle.image.proofs.Headers.{same-equal}
+use Rattle.layout.specs.Layout.{previousWords, recordWords}
+use Rattle.layout.proofs.Headers.{same-equal}
 use Rattle.encoding.specs.Encoding.{isConfig, configWords, configOf, wordsOf, previousOf, countersOf, recordOf, isRecord, areZero, encoded}
 
 -- ---- a configuration

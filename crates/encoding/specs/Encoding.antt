@@ -5,8 +5,8 @@ use mathlib.Core.List.{List, [], _∷_}
 use lib.Dec.{eqb}
 use lib.IntN.{ℤ}
 use lib.ListN.{length, getD}
-use Rattle.quotes.specs.Configuration.{newConfig, withMinStateObservations, withMaxQuoteGapMs}
-use Rattle.quotes.specs.declared.MicroPriceConfig.{MicroPriceConfig}
+use Rattle.config.specs.Configuration.{newConfig, withMinStateObservations, withMaxQuoteGapMs}
+use Rattle.config.specs.declared.MicroPriceConfig.{MicroPriceConfig}
 use Rattle.quotes.specs.declared.TopOfBook.{TopOfBook}
 use Rattle.tally.specs.Rules.{Memory}
 use Rattle.calibrator.specs.Record.{memory}
@@ -14,7 +14,7 @@ use Rattle.calibrator.specs.declared.Counters.{Counters}
 use Rattle.calibrator.specs.declared.Previous.{Previous}
 use Rattle.calibrator.specs.declared.Previous.the-variants.{Nothing, Quoted}
 use Rattle.calibrator.specs.declared.Record.{Record}
-use Rattle.image.specs.Layout.{recordWords, sameWords}
+use Rattle.layout.specs.Layout.{recordWords, sameWords}
 
 -- ---- a configuration: tick, buckets, spread states, least observations, largest gap
 

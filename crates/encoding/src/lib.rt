@@ -2,7 +2,7 @@
 use calibrator::Counters;
 use calibrator::Previous;
 use calibrator::Record;
-use quotes::MicroPriceConfig;
+use config::MicroPriceConfig;
 use quotes::TopOfBook;
 ghost use mathlib.Core.Path.{_≡_};
 ghost use mathlib.Core.Bool.{true};
@@ -10,7 +10,6 @@ ghost use mathlib.Core.List.{[]};
 ghost use Prim.Native.Nat.{_≤_};
 ghost use lib.ListN.{length};
 ghost use Rattle.calibrator.specs.Record.{memory};
-ghost use Rattle.image.specs.Layout.{previousWords};
 ghost use Rattle.encoding.specs.Encoding.{isConfig, configOf, configWords, wordsOf, quoteOf, previousOf, countersOf, recordOf, isRecord, areZero, encoded};
 
 // What an exported operation answers to words that are no configuration or no record.
@@ -96,23 +95,13 @@ pub fn record_of(w: &[u64]) -> Record
     Record { previous, counters }
 }
 
-// The last quote's words: 1 and its five, or zeros.
-fn words_of(p: Previous) -> [u64; 6]
-    ensures { λ r. ⌜ r ≡ previousWords p ⌝ }
-{
-    match p {
-        Previous::Nothing => [0, 0, 0, 0, 0, 0],
-        Previous::Quoted(q) => [1, q.timestamp_ms, q.bid, q.ask, q.bid_size, q.ask_size],
-    }
-}
-
 // Writes the ten words of a record.
 pub fn put_record(w: &mut [u64], rec: Record)
     requires { ⌜ length (now w) ≡ 10 ⌝ }
     ensures { λ _. ⌜ now (w .exit) ≡ wordsOf (memory rec [] [] []) ⌝ }
 {
     let previous = rec.previous;
-    let p = words_of(previous);
+    let p = layout::previous_words(previous);
     let k = rec.counters;
     w[0] = p[0];
     w[1] = p[1];

@@ -3,11 +3,11 @@ use Prim.Native.Nat.{ℕ}
 use mathlib.Core.List.{List}
 use lib.ListN.{length}
 use lib.Ieee.{Float}
-use Rattle.quotes.specs.Refusals.{refuseIf, firstOf}
-use Rattle.quotes.specs.Configuration.{states}
-use Rattle.quotes.specs.declared.Check.{Check}
-use Rattle.quotes.specs.declared.Check.the-variants as Check
-use Rattle.quotes.specs.declared.MicroPriceConfig.{MicroPriceConfig}
+use Rattle.refusals.specs.Refusals.{refuseIf, firstOf}
+use Rattle.refusals.specs.declared.Check.{Check}
+use Rattle.refusals.specs.declared.Check.the-variants as Check
+use Rattle.config.specs.Configuration.{states}
+use Rattle.config.specs.declared.MicroPriceConfig.{MicroPriceConfig}
 use Rattle.tally.specs.Rules.{Memory}
 use Rattle.calibrator.specs.Observe.{checkRoom, fresh}
 use Rattle.calibrator.specs.declared.Previous.{Previous}

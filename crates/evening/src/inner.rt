@@ -3,15 +3,15 @@ use super::Counted;
 use super::Evening;
 use super::EveningDone;
 use calibrator::Record;
-use quotes::Check;
-use quotes::MicroPriceConfig;
-use quotes::Refusal;
+use config::MicroPriceConfig;
 use recording::Recorded;
 use recording::Window;
+use refusals::Check;
+use refusals::Refusal;
 ghost use mathlib.Core.Path.{_≡_};
 ghost use mathlib.Core.Bool.{false};
 ghost use lib.ListN.{length};
-ghost use Rattle.quotes.specs.declared.Check.the-variants.{Fine};
+ghost use Rattle.refusals.specs.declared.Check.the-variants.{Fine};
 ghost use Rattle.calibrator.specs.Record.{memory};
 ghost use Rattle.calibrator.specs.Observe.{checkRoom, fresh};
 ghost use Rattle.recording.specs.Recording.{quotesOf, uneven};
@@ -51,7 +51,7 @@ fn check_evening(
     let Check::Fine = room else {
         return room;
     };
-    if fit::inner::wrong_room(quotes::inner::state_count(c), scratch, model) {
+    if fit::inner::wrong_room(config::inner::state_count(c), scratch, model) {
         return Check::Refused(Refusal::SliceLength);
     }
     Check::Fine

@@ -1,8 +1,8 @@
 // An evening's calibration (document 01, "An evening's calibration"): the window of a recording counted from new, and fitted.
 use calibrator::Record;
-use quotes::Check;
-use quotes::MicroPriceConfig;
-use quotes::Refusal;
+use config::MicroPriceConfig;
+use refusals::Check;
+use refusals::Refusal;
 
 pub mod inner;
 

@@ -1,40 +1,26 @@
--- An exported operation on counts or images that answers another number than 0 leaves all lent memory as it was.
+-- An exported operation on counts that answers another number than 0 leaves all lent memory as it was.
 use Prim.Native.Nat.{ℕ}
 use mathlib.Core.Path.{_≡_, refl}
 use mathlib.Core.Bool.{Bool, true, false, cond}
 use mathlib.Core.List.{List}
 use lib.IntN.{ℤ}
-use lib.ListN.{length}
-use Rattle.quotes.specs.Refusals.{numberOf}
-use Rattle.quotes.specs.declared.Check.{Check}
-use Rattle.quotes.specs.declared.Check.the-variants.{Fine, Refused}
+use Rattle.refusals.specs.Refusals.{numberOf}
+use Rattle.refusals.specs.declared.Check.{Check}
+use Rattle.refusals.specs.declared.Check.the-variants.{Fine, Refused}
 use Rattle.quotes.specs.declared.TopOfBook.{TopOfBook}
 use Rattle.tally.specs.Rules.{Memory, step}
-use Rattle.tally.specs.Entries.{tables}
 use Rattle.calibrator.specs.Record.{memory, answered}
 use Rattle.calibrator.specs.Observe.{roomFor, fresh, rule, judge, refusalBy}
 use Rattle.calibrator.specs.declared.Previous.{Previous}
-use Rattle.image.specs.Layout.{image}
-use Rattle.image.specs.Image.{saveRefusal, savedUnless, restoreRefusal, takenUnless}
 use Rattle.encoding.specs.Encoding.{configOf, recordOf, isRecord, encoded, badEncoding, lent}
 use Rattle.encoding.proofs.Laws.{words-back, encoded-known}
-use Rattle.exports.specs.Counting.{ofOutcome, newWords, observeWords, lentOut, ofSaved, saveWords, lentBack, ofTaken, restoreWords}
-
-save-kept : (b : Bool) (k : Check) (out written : List ℕ) → let x = cond b (ofSaved (savedUnless k out written)) (lentOut badEncoding out) in (x .answer ≡ 0 → ⊥) → x ≡ lentOut (x .answer) out
-save-kept false k out written h = refl
-save-kept true Fine out written h = absurd (h refl)
-save-kept true (Refused r) out written h = refl
+use Rattle.exports.specs.Counting.{ofOutcome, newWords, observeWords}
 
 module _ (w s m : List ℕ) (t : List ℤ) where
   outcome-kept : (b : Bool) → (b ≡ true → isRecord w ≡ true) → (k : Check) (after : Memory Previous) → let x = cond b (ofOutcome (answered k (memory (recordOf w) s m t) after)) (lent badEncoding w s m t) in (x .answer ≡ 0 → ⊥) → x ≡ lent (x .answer) w s m t
   outcome-kept false e k after h = refl
   outcome-kept true e Fine after h = absurd (h refl)
   outcome-kept true e (Refused r) after h = λ j. lent (numberOf r) (words-back w (e refl) s m t j) s m t
-
-  restore-kept : (c b : List ℕ) (i : Bool) → (i ≡ true → isRecord w ≡ true) → (k : Check) → let x = cond i (ofTaken (takenUnless k b (memory (recordOf w) s m t)) c) (lentBack c (lent badEncoding w s m t)) in (x .rest .answer ≡ 0 → ⊥) → x ≡ lentBack c (lent (x .rest .answer) w s m t)
-  restore-kept c b false e k h = refl
-  restore-kept c b true e Fine h = absurd (h refl)
-  restore-kept c b true e (Refused r) h = λ j. lentBack c (lent (numberOf r) (words-back w (e refl) s m t j) s m t)
 
 module _ (c w s m : List ℕ) (t : List ℤ) where
   known : encoded c w ≡ true → isRecord w ≡ true
@@ -48,11 +34,3 @@ module _ (c w s m : List ℕ) (t : List ℤ) where
       let d = configOf c in
       let before = memory (recordOf w) s m t in
       outcome-kept w s m t (encoded c w) known (refusalBy (rule d) (judge d) before q) (step (rule d) before q)
-
-  pub save-unchanged : (out : List ℕ) → (saveWords c w s m t out .answer ≡ 0 → ⊥) → saveWords c w s m t out ≡ lentOut (saveWords c w s m t out .answer) out
-  save-unchanged out =
-      let before = memory (recordOf w) s m t in
-      save-kept (encoded c w) (saveRefusal (configOf c) before (length out)) out (image (configOf c) before)
-
-  pub restore-unchanged : (b : List ℕ) → (restoreWords b c w s m t .rest .answer ≡ 0 → ⊥) → restoreWords b c w s m t ≡ lentBack c (lent (restoreWords b c w s m t .rest .answer) w s m t)
-  restore-unchanged b = restore-kept w s m t c b (encoded c w) known (restoreRefusal b (tables s m t))

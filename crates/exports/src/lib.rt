@@ -1,12 +1,11 @@
-// Document 01's new, quote, save and restore for callers in C and Rust: numbers and lent slices alone. include/micro_price.h says how they are called.
+// Document 01's configuration, new and quote for callers in C and Rust: numbers and lent slices alone. include/micro_price.h says how they are called.
 // A configuration is five words, a record ten (specs/Encoding.antt of `encoding`); other words are answered with BAD_ENCODING before all else. Every other answer is 0 or the number of a refusal.
 use encoding::BAD_ENCODING;
-use image::Restored;
-use quotes::Check;
 use quotes::TopOfBook;
+use refusals::Check;
 ghost use mathlib.Core.Path.{_≡_};
 ghost use Rattle.encoding.specs.Encoding.{lent, quote};
-ghost use Rattle.exports.specs.Counting.{validateWords, newWords, observeWords, lentOut, saveWords, lentBack, restoreWords};
+ghost use Rattle.exports.specs.Counting.{validateWords, newWords, observeWords};
 
 // Whether a configuration is valid: 0 or 1.
 #[no_mangle]
@@ -16,7 +15,7 @@ pub extern "C" fn micro_price_validate(config: &[u64]) -> u64
     if config.len() != 5 {
         return BAD_ENCODING;
     }
-    quotes::inner::check_number(encoding::config_of(config).validate())
+    refusals::check_number(encoding::config_of(config).validate())
 }
 
 // Empties the record and zeroes the three tables.
@@ -43,7 +42,7 @@ pub extern "C" fn micro_price_new(
     );
     let answer = made.answer;
     encoding::put_record(rec, made.next);
-    quotes::inner::check_number(answer)
+    refusals::check_number(answer)
 }
 
 // Adds the next quote. A refusal leaves the record, so its words are not written.
@@ -83,62 +82,8 @@ pub extern "C" fn micro_price_observe(
     );
     let answer = counted.answer;
     let Check::Fine = answer else {
-        return quotes::inner::check_number(answer);
+        return refusals::check_number(answer);
     };
     encoding::put_record(rec, counted.next);
     0
-}
-
-// Writes the image of a calibrator.
-#[no_mangle]
-pub extern "C" fn micro_price_save(
-    config: &[u64],
-    rec: &[u64],
-    stay: &[u64],
-    moved: &[u64],
-    move_half_ticks: &[i64],
-    out: &mut [u8],
-) -> u64
-    ensures { λ n. ⌜ lentOut n (now (out .exit)) ≡ saveWords (now (config .entry)) (now (rec .entry)) (now (stay .entry)) (now (moved .entry)) (now («move_half_ticks» .entry)) (now (out .entry)) ⌝ }
-{
-    if !encoding::is_encoded(config, rec) {
-        return BAD_ENCODING;
-    }
-    let answer = image::inner::save(
-        encoding::record_of(rec),
-        stay,
-        moved,
-        move_half_ticks,
-        encoding::config_of(config),
-        out,
-    );
-    quotes::inner::check_number(answer)
-}
-
-// Takes an image back: fills the configuration, the record and the tables.
-#[no_mangle]
-pub extern "C" fn micro_price_restore(
-    image: &[u8],
-    config: &mut [u64],
-    rec: &mut [u64],
-    stay: &mut [u64],
-    moved: &mut [u64],
-    move_half_ticks: &mut [i64],
-) -> u64
-    ensures { λ n. ⌜ lentBack (now (config .exit)) (lent n (now (rec .exit)) (now (stay .exit)) (now (moved .exit)) (now («move_half_ticks» .exit))) ≡ restoreWords (now (image .entry)) (now (config .entry)) (now (rec .entry)) (now (stay .entry)) (now (moved .entry)) (now («move_half_ticks» .entry)) ⌝ }
-{
-    if !encoding::is_encoded(config, rec) {
-        return BAD_ENCODING;
-    }
-    let before = encoding::record_of(rec);
-    let taken = image::inner::restore(before, image, stay, moved, move_half_ticks);
-    let answer = taken.answer;
-    encoding::put_record(rec, taken.next);
-    match answer {
-        Restored::Config(c) => {
-            encoding::put_config(config, c);
-            0
-        }
-        Restored::Refused(r) => quotes::inner::number_of(r),
-    }
 }

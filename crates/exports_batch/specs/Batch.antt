@@ -6,7 +6,7 @@ use mathlib.Core.List.{List}
 use lib.Ieee.{Float}
 use lib.IntN.{ℤ}
 use lib.ListN.{length}
-use Rattle.quotes.specs.Refusals.{numberOf, checkNumber}
+use Rattle.refusals.specs.Refusals.{numberOf, checkNumber}
 use Rattle.calibrator.specs.Record.{memory}
 use Rattle.replay.specs.Replay.{site, callsFrom, Replay, replayed, replayStory, OwnCalls}
 use Rattle.replay.specs.declared.Replayed.{Replayed}

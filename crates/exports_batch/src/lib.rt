@@ -15,9 +15,9 @@ fn put_invalid(answer: Evening, invalid: &mut u64) -> u64
         Evening::Fitted(d) => {
             *invalid = d.invalid;
             let fitted = d.answer;
-            quotes::inner::check_number(fitted)
+            refusals::check_number(fitted)
         }
-        Evening::Refused(r) => quotes::inner::number_of(r),
+        Evening::Refused(r) => refusals::number_of(r),
     }
 }
 

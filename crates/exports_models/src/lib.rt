@@ -1,60 +1,23 @@
-// Document 01's fit, model check, signal and window for callers in C and Rust: numbers and lent slices alone. include/micro_price.h says how they are called.
+// Document 01's model check and signal for callers in C and Rust: numbers and lent slices alone. include/micro_price.h says how they are called.
 // `put_signal`, which has a `requires`, is inner; its caller proves it.
 use encoding::BAD_ENCODING;
-use model::StateStatus;
-use quotes::Check;
-use quotes::Refusal;
 use quotes::TopOfBook;
-use recording::Window;
+use refusals::Check;
+use refusals::Refusal;
 use signals::MicroPriceSignal;
-use signals::SignalSource;
 use signals::Signalled;
 ghost use mathlib.Core.Path.{_≡_};
-ghost use mathlib.Core.Bool.{true};
 ghost use lib.ListN.{length};
-ghost use Rattle.quotes.specs.Refusals.{numberOf};
-ghost use Rattle.model.specs.Status.{statusNumber};
-ghost use Rattle.signals.specs.Signal.{sourceNumber};
-ghost use Rattle.encoding.specs.Encoding.{encoded, quote};
-ghost use Rattle.exports_models.specs.Models.{lentFit, fitWords, lentRow, rowAfter, checkModelWords, lentSignal, fourWords, signalWords, lentEnds, windowWords};
-
-// Fits the model: writes a row of seven words for each state.
-#[no_mangle]
-pub extern "C" fn micro_price_fit_counts(
-    config: &[u64],
-    rec: &[u64],
-    stay: &[u64],
-    moved: &[u64],
-    move_half_ticks: &[i64],
-    scratch: &mut [f64],
-    model: &mut [u64],
-) -> u64
-    ensures { λ n. ⌜ lentFit n (now (model .exit)) (now (scratch .exit)) ≡ fitWords (now (config .entry)) (now (rec .entry)) (now (stay .entry)) (now (moved .entry)) (now («move_half_ticks» .entry)) (now (model .entry)) (now (scratch .entry)) ⌝ }
-{
-    if !encoding::is_encoded(config, rec) {
-        return BAD_ENCODING;
-    }
-    let answer = fit::inner::fit_counts(
-        encoding::record_of(rec),
-        stay,
-        moved,
-        move_half_ticks,
-        encoding::config_of(config),
-        scratch,
-        model,
-    );
-    quotes::inner::check_number(answer)
-}
+ghost use Rattle.refusals.specs.Refusals.{numberOf, rowOr};
+ghost use Rattle.encoding.specs.Encoding.{quote};
+ghost use Rattle.exports_models.specs.Models.{lentRow, checkModelWords, lentSignal, fourWords, signalWords};
 
 // A refusal's number; at 13 the row that it names is written.
 fn put_row(r: Refusal, row: &mut u64) -> u64
-    ensures { λ n. ⌜ (n ≡ numberOf r) × (now (row .exit) ≡ rowAfter r (now (row .entry))) ⌝ }
+    ensures { λ n. ⌜ (n ≡ numberOf r) × (now (row .exit) ≡ rowOr r (now (row .entry))) ⌝ }
 {
-    let Refusal::ModelRow(i) = r else {
-        return quotes::inner::number_of(r);
-    };
-    *row = i as u64;
-    13
+    *row = refusals::row_or(r, *row);
+    refusals::number_of(r)
 }
 
 // Refuses a model table that is not one of the configuration; at 13, row is the first bad row.
@@ -65,31 +28,10 @@ pub extern "C" fn micro_price_check_model(config: &[u64], model: &[u64], row: &m
     if config.len() != 5 {
         return BAD_ENCODING;
     }
-    let checked = signals::check_model(encoding::config_of(config), model);
+    let checked = model_check::check_model(encoding::config_of(config), model);
     match checked {
         Check::Fine => 0,
         Check::Refused(r) => put_row(r, row),
-    }
-}
-
-fn status_number(s: StateStatus) -> u64
-    ensures { λ r. ⌜ r ≡ statusNumber s ⌝ }
-{
-    match s {
-        StateStatus::Calibrated => 0,
-        StateStatus::Rare => 1,
-        StateStatus::NoPriceMove => 2,
-        StateStatus::OutsideQuotes => 3,
-    }
-}
-
-fn source_number(s: SignalSource) -> u64
-    ensures { λ r. ⌜ r ≡ sourceNumber s ⌝ }
-{
-    match s {
-        SignalSource::MicroPrice => 0,
-        SignalSource::MidFallback(status) => status_number(status),
-        SignalSource::SpreadOutOfRange => 4,
     }
 }
 
@@ -102,7 +44,7 @@ fn put_signal(out: &mut [u64], s: MicroPriceSignal)
     out[0] = s.timestamp_ms;
     out[1] = s.mid_sum;
     out[2] = floats::to_bits(s.adjustment);
-    out[3] = source_number(source);
+    out[3] = signals::inner::source_number(source);
 }
 
 // The signal of a quote; at 13, row is the quote's state.
@@ -140,27 +82,5 @@ pub extern "C" fn micro_price_signal(
             0
         }
         Signalled::Refused(r) => put_row(r, row),
-    }
-}
-
-// The part of a recording with start ≤ time < end: its first quote, and the one past its last.
-#[no_mangle]
-pub extern "C" fn micro_price_window_of(
-    recording: &[u64],
-    start: u64,
-    end: u64,
-    first: &mut u64,
-    past: &mut u64,
-) -> u64
-    ensures { λ n. ⌜ lentEnds n (now (first .exit)) (now (past .exit)) ≡ windowWords (now (recording .entry)) start end (now (first .entry)) (now (past .entry)) ⌝ }
-{
-    let found = recording::window_of(recording, start, end);
-    match found {
-        Window::Part(ends) => {
-            *first = ends.first as u64;
-            *past = ends.past as u64;
-            0
-        }
-        Window::Refused(r) => quotes::inner::number_of(r),
     }
 }

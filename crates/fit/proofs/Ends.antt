@@ -8,11 +8,11 @@ use lib.Dec.{eqb}
 use lib.IntN.{ℤ}
 use lib.ListN.{length, getD}
 use lib.Ieee.{Float}
-use Rattle.quotes.specs.Refusals.{refusal}
-use Rattle.quotes.specs.declared.Check.{Check}
-use Rattle.quotes.specs.declared.Check.the-variants.{Fine, Refused}
-use Rattle.quotes.specs.declared.Refusal.{Refusal}
-use Rattle.quotes.specs.declared.Refusal.the-variants.{NoCalibratedState}
+use Rattle.refusals.specs.Refusals.{refusal}
+use Rattle.refusals.specs.declared.Check.{Check}
+use Rattle.refusals.specs.declared.Check.the-variants.{Fine, Refused}
+use Rattle.refusals.specs.declared.Refusal.{Refusal}
+use Rattle.refusals.specs.declared.Refusal.the-variants.{NoCalibratedState}
 use Rattle.model.specs.Rows.{rowWords}
 use Rattle.model.specs.Status.{statusNumber}
 use Rattle.model.specs.declared.StateEstimate.{StateEstimate}

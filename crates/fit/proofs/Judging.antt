@@ -13,10 +13,10 @@ use Rattle.marking.specs.Below.{someTo}
 use Rattle.marking.proofs.Below.{some-at, some-step, some-more}
 use Rattle.model.specs.Rows.{rowWords}
 use Rattle.model.specs.declared.StateEstimate.{StateEstimate}
-use Rattle.quotes.specs.Refusals.{refusal}
-use Rattle.quotes.specs.declared.Check.{Check}
-use Rattle.quotes.specs.declared.Check.the-variants.{Fine, Refused}
-use Rattle.quotes.specs.declared.Refusal.the-variants.{NoCalibratedState, Unrepresentable}
+use Rattle.refusals.specs.Refusals.{refusal}
+use Rattle.refusals.specs.declared.Check.{Check}
+use Rattle.refusals.specs.declared.Check.the-variants.{Fine, Refused}
+use Rattle.refusals.specs.declared.Refusal.the-variants.{NoCalibratedState, Unrepresentable}
 use Rattle.estimates.specs.Estimates.{representable}
 use Rattle.fit.specs.Fit.{judgedRows, tableOf, answerOf}
 

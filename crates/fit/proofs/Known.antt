@@ -13,14 +13,14 @@ use Rattle.floats.specs.Floats.{posZero}
 use Rattle.basics.specs.Lists.{any, sum}
 use Rattle.basics.proofs.Tests.{both, neither}
 use Rattle.basics.proofs.Anys.{none-at}
-use Rattle.quotes.specs.Configuration.{states}
-use Rattle.quotes.specs.Known.{Valid}
-use Rattle.quotes.specs.Refusals.{refuseIf, firstOf, firstFrom}
+use Rattle.refusals.specs.Refusals.{refuseIf, firstOf, firstFrom}
+use Rattle.refusals.specs.declared.Check.{Check}
+use Rattle.refusals.specs.declared.Check.the-variants.{Fine}
+use Rattle.refusals.proofs.Refusals.{if-fine, first-fine, from-fine}
+use Rattle.config.specs.Configuration.{states}
+use Rattle.config.specs.Known.{Valid}
+use Rattle.config.specs.declared.MicroPriceConfig.{MicroPriceConfig}
 use Rattle.quotes.specs.States.{mirrorOf}
-use Rattle.quotes.specs.declared.Check.{Check}
-use Rattle.quotes.specs.declared.Check.the-variants.{Fine}
-use Rattle.quotes.specs.declared.MicroPriceConfig.{MicroPriceConfig}
-use Rattle.quotes.proofs.Refusals.{if-fine, first-fine, from-fine}
 use Rattle.quotes.proofs.States.{mirror-below, mirror-involution}
 use Rattle.tally.specs.Entries.{overTotal}
 use Rattle.tally.specs.Events.{Counts}

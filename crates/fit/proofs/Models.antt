@@ -4,7 +4,7 @@ use mathlib.Core.Path.{_≡_, refl, sym, ap, subst, _∙_}
 use mathlib.Core.Bool.{Bool, true, false, not, cond}
 use mathlib.Core.List.{List}
 use mathlib.Core.Logic.{_⊎_, inl, inr}
-use native.Mathlib.Nat.{eq-or-lt-of-le, mul-comm, mul-le-mul, div-le-self}
+use native.Mathlib.Nat.{eq-or-lt-of-le, mul-comm}
 use native.Mathlib.Numerals.{add-one}
 use native.Mathlib.Omega.{arith}
 use borrow.Author.Tests.{not-false}
@@ -20,16 +20,16 @@ use Rattle.floats.specs.Floats.{posZero, one, abs, half, halfSpread, clamp}
 use Rattle.floats.proofs.Signs.{abs-plus, plus-finite}
 use Rattle.floats.proofs.Whole.{half-exact}
 use Rattle.floats.proofs.Within.{value-finite, values-le}
-use Rattle.quotes.specs.Configuration.{states, valid, checkConfig}
-use Rattle.quotes.specs.Known.{Valid}
-use Rattle.quotes.specs.Refusals.{numberOf, refusal}
+use Rattle.refusals.specs.Refusals.{numberOf, refusal}
+use Rattle.refusals.specs.declared.Check.{Check}
+use Rattle.refusals.specs.declared.Check.the-variants.{Fine, Refused}
+use Rattle.refusals.specs.declared.Refusal.{Refusal}
+use Rattle.refusals.proofs.Refusals.{if-fine, first-fine}
+use Rattle.config.specs.Configuration.{states, valid, checkConfig}
+use Rattle.config.specs.declared.MicroPriceConfig.{MicroPriceConfig}
 use Rattle.quotes.specs.States.{mirrorOf, spreadIn}
-use Rattle.quotes.specs.declared.Check.{Check}
-use Rattle.quotes.specs.declared.Check.the-variants.{Fine, Refused}
-use Rattle.quotes.specs.declared.MicroPriceConfig.{MicroPriceConfig}
-use Rattle.quotes.specs.declared.Refusal.{Refusal}
-use Rattle.quotes.proofs.Refusals.{if-fine, first-fine}
 use Rattle.quotes.proofs.States.{mirror-below, mirror-keeps-spread}
+use Rattle.quotes.proofs.Widths.{width-most}
 use Rattle.tally.specs.Rules.{Memory}
 use Rattle.calibrator.specs.Observe.{roomFor}
 use Rattle.calibrator.specs.declared.Previous.{Previous}
@@ -168,13 +168,6 @@ found-of : (G : Given) (f : Fit) → Ended G f → answerOf f ≡ Fine → Found
 found-of G (fitted rows) e a = e
 found-of G (refused k) e a = absurd (let z : _≡_ {A = ℕ} 0 1 = cc in omega arith)
 
--- tick × spread of a state is a float exactly
-width-less : (c : MicroPriceConfig) → Valid c → (i : ℕ) → i < states c → c .«tick_size» * spreadIn (c .«imbalance_buckets») i < 2 ^ 53
-width-less c v i h =
-    let s : spreadIn (c .«imbalance_buckets») i ≤ 256 = omega (arith, div-le-self i (c .«imbalance_buckets»), v .states-most) in
-    let w : c .«tick_size» * spreadIn (c .«imbalance_buckets») i ≤ 1000000000 * 256 = mul-le-mul (v .tick-most) s in
-    omega arith
-
 inside-of : (c : MicroPriceConfig) (i : ℕ) (x : Float) → c .«tick_size» * spreadIn (c .«imbalance_buckets») i < 2 ^ 53 → T (finite x) → T (le (abs x) (halfSpread (c .«tick_size») (spreadIn (c .«imbalance_buckets») i))) → Inside c i x
 unfolding abs
 inside-of c i nan w f h = absurd f
@@ -271,8 +264,8 @@ module _ (rounds moves : ℕ) (c : MicroPriceConfig) (m : Memory Previous) (t₀
     -- a Calibrated state: its adjustment is in size at most half the spread
     pub calibrated-inside : (i : ℕ) → i < states c → rowAt table i .status ≡ 0 → Inside c i (rowAt table i .adjustment)
     calibrated-inside i h z =
-        let w = width-less c (known .conf) i h in
         let width = c .«tick_size» * spreadIn (c .«imbalance_buckets») i in
+        let w : width < 2 ^ 53 = omega (arith, width-most c (known .conf) i h) in
         let e = rows-are i h in
         let k = row-inside G (found .G1) (found .sum) (found .share) i (found .held i h) (value-finite (half width) false width 2 (half-exact width w)) (sym (ap (λ (x : StateEstimate). x .status) e) ∙ z) in
         inside-of c i (rowAt table i .adjustment) w (row-of i h .final-finite)

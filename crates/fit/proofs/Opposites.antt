@@ -15,7 +15,7 @@ use Rattle.basics.proofs.Tests.{both}
 use Rattle.floats.specs.Floats.{posZero, one, two, clamp, abs, plusZero, halfTick, halfSpread}
 use Rattle.floats.proofs.Helpers.{plus-zero, plus-other}
 use Rattle.floats.proofs.Order.{not-below}
-use Rattle.floats.proofs.Signs.{mul-neg, div-neg, round-zero, sub-turned, abs-neg, plus-neg-plus, plus-sum-zero}
+use Rattle.floats.proofs.Signs.{mul-neg, div-neg, round-zero, sub-turned, abs-neg, abs-finite, plus-neg-plus, plus-sum-zero}
 use Rattle.floats.proofs.Within.{finite-no-nan}
 use Rattle.model.specs.Rows.{plusZeros}
 use Rattle.model.specs.Status.{statusNumber}
@@ -37,12 +37,6 @@ unfolding abs lt ofBits
 small-finite nan h = absurd (false≢true h)
 small-finite (inf s) h = absurd (false≢true h)
 small-finite (fin s m e) h = tt
-
-abs-finite : (x : Float) → T (finite x) → T (finite (abs x))
-unfolding abs
-abs-finite nan h = h
-abs-finite (inf s) h = h
-abs-finite (fin s m e) h = tt
 
 pub plus-plus : (x : Float) → plusZero (plusZero x) ≡ plusZero x
 unfolding plusZero
@@ -247,7 +241,7 @@ module _ (G : Given) (G1 sum share : ℕ → Float) where
   row-inside i r p z =
       let half = halfSpread (G .tick) (G .spread i) in
       let x = adjusted (G .tick) (sum i) (sum (G .mirror i)) in
-      not-below half (abs x) (finite-no-nan half p) (finite-no-nan (abs x) (abs-finite x (finite-of (row i) r .final))) (judged-within (markOf (G .cells) i) half x z)
+      not-below half (abs x) (finite-no-nan half p) (finite-no-nan (abs x) (subst T (sym (abs-finite x)) (finite-of (row i) r .final))) (judged-within (markOf (G .cells) i) half x z)
 
   module _ (M : Mirrored (G .cells) (G .mirror)) (p : T (finite (halfTick (G .tick)))) (i : ℕ) (h : i < G .cells .states) (kept : G .spread (G .mirror i) ≡ G .spread i) where
     abbrev j : ℕ

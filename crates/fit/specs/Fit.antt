@@ -7,12 +7,12 @@ use lib.IntN.{ℤ, pos}
 use lib.ListN.{length, getD, replicate}
 use lib.Ieee.{Float}
 use Rattle.floats.specs.Floats.{posZero}
-use Rattle.quotes.specs.Refusals.{refusal, refuseIf, firstOf}
-use Rattle.quotes.specs.Configuration.{states}
+use Rattle.refusals.specs.Refusals.{refusal, refuseIf, firstOf}
+use Rattle.refusals.specs.declared.Check.{Check}
+use Rattle.refusals.specs.declared.Check.the-variants.{Fine, Refused}
+use Rattle.config.specs.Configuration.{states}
+use Rattle.config.specs.declared.MicroPriceConfig.{MicroPriceConfig}
 use Rattle.quotes.specs.States.{mirrorOf, bucketIn, spreadIn}
-use Rattle.quotes.specs.declared.Check.{Check}
-use Rattle.quotes.specs.declared.Check.the-variants.{Fine, Refused}
-use Rattle.quotes.specs.declared.MicroPriceConfig.{MicroPriceConfig}
 use Rattle.tally.specs.Events.{Counts}
 use Rattle.tally.specs.Rules.{Memory}
 use Rattle.calibrator.specs.Observe.{roomFor}

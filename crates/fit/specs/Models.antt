@@ -9,9 +9,9 @@ use lib.Ieee.{Float, binary64, add, neg, lt, le}
 use lib.Ieee.Exact.{HasValue}
 use lib.Ieee.Scale.{finite}
 use Rattle.floats.specs.Floats.{posZero, one, abs, plusZero, halfSpread}
-use Rattle.quotes.specs.Configuration.{states}
+use Rattle.config.specs.Configuration.{states}
+use Rattle.config.specs.declared.MicroPriceConfig.{MicroPriceConfig}
 use Rattle.quotes.specs.States.{bucketIn, spreadIn}
-use Rattle.quotes.specs.declared.MicroPriceConfig.{MicroPriceConfig}
 use Rattle.model.specs.Rows.{rowAt, plusZeros}
 use Rattle.model.specs.declared.StateEstimate.{StateEstimate}
 use Rattle.fit.specs.Fit.{Fit, fitted, tableOf}

@@ -9,9 +9,9 @@ use Rattle.marking.specs.Marks.{cellsOf, Fitting}
 use Rattle.linear.specs.Flat.{from}
 use Rattle.series.specs.Scratch.{sumAt, shareAt, solvedG1}
 use Rattle.system.specs.Tables.{totalOf}
-use Rattle.quotes.specs.States.{bucketIn, spreadIn}
+use Rattle.refusals.specs.declared.Check.{Check}
 use Rattle.model.specs.declared.StateEstimate.{StateEstimate}
-use Rattle.quotes.specs.declared.Check.{Check}
+use Rattle.quotes.specs.States.{bucketIn, spreadIn}
 use Rattle.estimates.specs.Estimates.{Given, estimate}
 use Rattle.fit.specs.Fit.{Fit, answerOf, modelAfter}
 

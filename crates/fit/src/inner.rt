@@ -1,10 +1,10 @@
 // Inner functions: for the crates above, not for users. Where one has a `requires`, each caller proves it.
 use calibrator::Record;
+use config::MicroPriceConfig;
 use estimates::Solved;
 use model::StateEstimate;
-use quotes::Check;
-use quotes::MicroPriceConfig;
-use quotes::Refusal;
+use refusals::Check;
+use refusals::Refusal;
 ghost use mathlib.Core.Path.{_≡_};
 ghost use mathlib.Core.Bool.{true, cond};
 ghost use Prim.Native.Nat.{ℕ, _+_, _*_, _<_, _≤_};
@@ -15,7 +15,7 @@ ghost use mathlib.Core.List.{List};
 ghost use lib.Seq.{sets};
 ghost use lib.Ieee.{Float};
 ghost use Rattle.floats.specs.Floats.{posZero, one};
-ghost use Rattle.quotes.specs.Configuration.{states};
+ghost use Rattle.config.specs.Configuration.{states};
 ghost use Rattle.model.specs.Status.{statusNumber};
 ghost use Rattle.model.specs.declared.StateStatus.{StateStatus};
 ghost use Rattle.marking.specs.Below.{someTo};
@@ -259,7 +259,7 @@ fn check_fit(
     let Check::Fine = room else {
         return room;
     };
-    if wrong_room(quotes::inner::state_count(c), scratch, model) {
+    if wrong_room(config::inner::state_count(c), scratch, model) {
         return Check::Refused(Refusal::SliceLength);
     }
     let counters = rec.counters;
@@ -292,7 +292,7 @@ pub fn fit_counts_with(
     let Check::Fine = k else {
         return k;
     };
-    let n = quotes::inner::state_count(config);
+    let n = config::inner::state_count(config);
     let mirrors = mirrored::mirrors_of(config);
     let answer = fit_states(
         n,

@@ -1,7 +1,7 @@
 // The fit of a model to the counts (document 01, "The fit"). The record, the tables, the scratch and the model table are lent.
 use calibrator::Record;
-use quotes::Check;
-use quotes::MicroPriceConfig;
+use config::MicroPriceConfig;
+use refusals::Check;
 
 pub mod inner;
 

@@ -213,6 +213,12 @@ abs-plus (inf s) = refl
 abs-plus (fin s zero e) = refl
 abs-plus (fin s (suc m) e) = refl
 
+pub abs-finite : (x : Float) → finite (abs x) ≡ finite x
+unfolding abs
+abs-finite nan = refl
+abs-finite (inf s) = refl
+abs-finite (fin s m e) = refl
+
 pub plus-finite : (x : Float) → T (finite x) → T (finite (plusZero x))
 unfolding plusZero
 plus-finite nan h = h

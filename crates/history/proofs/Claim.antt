@@ -9,16 +9,16 @@ use lib.Dec.{T, eqb}
 use lib.ListN.{length}
 use borrow.Author.Tests.{eqb-true}
 use Rattle.basics.proofs.Tests.{both}
-use Rattle.quotes.specs.Configuration.{states, valid}
-use Rattle.quotes.specs.Known.{Valid}
+use Rattle.refusals.specs.Refusals.{refuseIf, firstOf}
+use Rattle.refusals.specs.declared.Check.{Check}
+use Rattle.refusals.specs.declared.Check.the-variants.{Fine, Refused}
+use Rattle.refusals.proofs.Refusals.{if-fine, first-fine}
+use Rattle.config.specs.Configuration.{states, valid}
+use Rattle.config.specs.Known.{Valid}
+use Rattle.config.specs.declared.MicroPriceConfig.{MicroPriceConfig}
+use Rattle.config.proofs.Known.{valid-known}
 use Rattle.quotes.specs.Quotes.{checkQuote}
-use Rattle.quotes.specs.Refusals.{refuseIf, firstOf}
-use Rattle.quotes.specs.declared.Check.{Check}
-use Rattle.quotes.specs.declared.Check.the-variants.{Fine, Refused}
-use Rattle.quotes.specs.declared.MicroPriceConfig.{MicroPriceConfig}
 use Rattle.quotes.specs.declared.TopOfBook.{TopOfBook}
-use Rattle.quotes.proofs.Known.{valid-known}
-use Rattle.quotes.proofs.Refusals.{if-fine, first-fine}
 use Rattle.tally.specs.Limits.{over}
 use Rattle.tally.specs.Rules.{Memory, step}
 use Rattle.tally.proofs.Step.{step-memory}
@@ -29,7 +29,7 @@ use Rattle.calibrator.specs.Observe.{rule, fresh, judge, refusalBy, earlier}
 use Rattle.calibrator.specs.declared.Previous.{Previous}
 use Rattle.calibrator.specs.declared.Previous.the-variants.{Nothing, Quoted}
 use Rattle.calibrator.proofs.Step.{rule-lawful}
-use Rattle.image.specs.Layout.{image, previousWords, sameWords}
+use Rattle.layout.specs.Layout.{image, previousWords, sameWords}
 use Rattle.image.specs.Image.{savedUnless, saveRefusal, endRestore, Taken, restored, lentWrong}
 use Rattle.image.specs.declared.Restored.{Restored}
 use Rattle.image.specs.declared.Restored.the-variants as Restored

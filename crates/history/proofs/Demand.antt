@@ -9,12 +9,12 @@ use lib.IntN.{ℤ, pos, _+ℤ_, +ℤ-idl}
 use lib.ListN.{length, getD, getD-replicate}
 use Rattle.basics.specs.Lists.{count, greatest, sum, tab}
 use Rattle.basics.proofs.Lists.{getD-tab, getD-square, flat-below, tab-ext}
-use Rattle.quotes.specs.Configuration.{states, valid}
-use Rattle.quotes.specs.Known.{Valid}
-use Rattle.quotes.specs.declared.Check.{Check}
-use Rattle.quotes.specs.declared.Check.the-variants.{Fine, Refused}
-use Rattle.quotes.specs.declared.MicroPriceConfig.{MicroPriceConfig}
-use Rattle.quotes.proofs.Known.{valid-known}
+use Rattle.refusals.specs.declared.Check.{Check}
+use Rattle.refusals.specs.declared.Check.the-variants.{Fine, Refused}
+use Rattle.config.specs.Configuration.{states, valid}
+use Rattle.config.specs.Known.{Valid}
+use Rattle.config.specs.declared.MicroPriceConfig.{MicroPriceConfig}
+use Rattle.config.proofs.Known.{valid-known}
 use Rattle.tally.specs.Events.{stayAt, movedAt, totalAt, isPair, isSkip, sizeOf}
 use Rattle.tally.specs.Rules.{Memory, step}
 use Rattle.tally.proofs.Balance.{neighbours-counted}

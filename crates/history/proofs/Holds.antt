@@ -14,19 +14,21 @@ use Rattle.basics.proofs.Tests.{neither, eqb-same}
 use Rattle.words.specs.Words.{twos, AllWords}
 use Rattle.words.proofs.Round.{all-append}
 use Rattle.signed.proofs.Sums.{change-size}
-use Rattle.quotes.specs.Configuration.{states, valid}
-use Rattle.quotes.specs.Known.{Valid, Accepted}
+use Rattle.refusals.specs.Refusals.{refuseIf, firstOf, firstFrom}
+use Rattle.refusals.specs.declared.Check.{Check}
+use Rattle.refusals.specs.declared.Check.the-variants.{Fine, Refused}
+use Rattle.config.specs.Configuration.{states, valid}
+use Rattle.config.specs.Known.{Valid}
+use Rattle.config.specs.declared.MicroPriceConfig.{MicroPriceConfig}
+use Rattle.config.proofs.Known.{valid-known}
+use Rattle.quotes.specs.Known.{Accepted}
 use Rattle.quotes.specs.Neighbours.{neighboursOf}
 use Rattle.quotes.specs.Quotes.{checkQuote}
-use Rattle.quotes.specs.Refusals.{refuseIf, firstOf, firstFrom}
 use Rattle.quotes.specs.States.{mirrorOf}
-use Rattle.quotes.specs.declared.Check.{Check}
-use Rattle.quotes.specs.declared.Check.the-variants.{Fine, Refused}
-use Rattle.quotes.specs.declared.MicroPriceConfig.{MicroPriceConfig}
 use Rattle.quotes.specs.declared.Neighbours.{Neighbours}
 use Rattle.quotes.specs.declared.Neighbours.the-variants.{Skipped, Counted}
 use Rattle.quotes.specs.declared.TopOfBook.{TopOfBook}
-use Rattle.quotes.proofs.Known.{valid-known, fine-known}
+use Rattle.quotes.proofs.Known.{fine-known}
 use Rattle.quotes.proofs.Pairs.{counted-made}
 use Rattle.quotes.proofs.Ticks.{half-ticks-most}
 use Rattle.tally.specs.Entries.{overCell, overTotal}
@@ -44,7 +46,7 @@ use Rattle.calibrator.specs.declared.Previous.{Previous}
 use Rattle.calibrator.specs.declared.Previous.the-variants.{Nothing, Quoted}
 use Rattle.calibrator.proofs.Memories.{recordOf, record-back}
 use Rattle.calibrator.proofs.Step.{rule-lawful}
-use Rattle.image.specs.Layout.{imageLength, previousWords, header, body, image}
+use Rattle.layout.specs.Layout.{imageLength, previousWords, header, body, image}
 use Rattle.image.specs.Image.{saveRefusal, saved, savedUnless, endRestore, restored, lentWrong}
 use Rattle.image.specs.declared.Restored.the-variants.{Config}
 use Rattle.image.proofs.Round.{restored-saved}

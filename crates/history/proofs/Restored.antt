@@ -13,13 +13,13 @@ use Rattle.basics.proofs.Tests.{both, neither}
 use Rattle.words.specs.Words.{wordsOf, untwos, AllBytes, AllWords}
 use Rattle.words.proofs.Laws.{length-words}
 use Rattle.words.proofs.Round.{bytes-drop, words-fit}
-use Rattle.quotes.specs.Configuration.{states}
-use Rattle.quotes.specs.Refusals.{refuseIf, firstOf, firstFrom}
+use Rattle.refusals.specs.Refusals.{refuseIf, firstOf, firstFrom}
+use Rattle.refusals.specs.declared.Check.{Check}
+use Rattle.refusals.specs.declared.Check.the-variants.{Fine, Refused}
+use Rattle.refusals.proofs.Refusals.{if-fine, first-fine, from-fine}
+use Rattle.config.specs.Configuration.{states}
+use Rattle.config.specs.declared.MicroPriceConfig.{MicroPriceConfig}
 use Rattle.quotes.specs.States.{mirrorOf}
-use Rattle.quotes.specs.declared.Check.{Check}
-use Rattle.quotes.specs.declared.Check.the-variants.{Fine, Refused}
-use Rattle.quotes.specs.declared.MicroPriceConfig.{MicroPriceConfig}
-use Rattle.quotes.proofs.Refusals.{if-fine, first-fine, from-fine}
 use Rattle.tally.specs.Balance.{Sized, Balanced}
 use Rattle.tally.specs.Entries.{overCell, overTotal}
 use Rattle.tally.specs.Events.{Counts}
@@ -29,7 +29,7 @@ use Rattle.mirrored.specs.Mirrors.{sameTotal, storedOver, totalMirrored, cellsA
 use Rattle.mirrored.proofs.Walks.{all-at}
 use Rattle.calibrator.specs.declared.Previous.{Previous}
 use Rattle.calibrator.specs.declared.Previous.the-variants.{Nothing, Quoted}
-use Rattle.image.specs.Layout.{word, previousWords, quoteIn, previousIn, configIn, memoryIn}
+use Rattle.layout.specs.Layout.{word, previousWords, quoteIn, previousIn, configIn, memoryIn}
 use Rattle.image.specs.Image.{takenUnless, restored, restoreRefusal}
 use Rattle.image.specs.declared.Restored.the-variants as Restored
 use Rattle.image.proofs.Judged.{restore-known}

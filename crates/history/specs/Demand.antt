@@ -5,10 +5,10 @@ use mathlib.Core.List.{List}
 use lib.IntN.{pos}
 use lib.ListN.{length, getD}
 use Rattle.basics.specs.Lists.{count, greatest, sum, tab}
-use Rattle.quotes.specs.Configuration.{states}
+use Rattle.refusals.specs.declared.Check.the-variants.{Fine}
+use Rattle.config.specs.Configuration.{states}
+use Rattle.config.specs.declared.MicroPriceConfig.{MicroPriceConfig}
 use Rattle.quotes.specs.States.{mirrorOf}
-use Rattle.quotes.specs.declared.Check.the-variants.{Fine}
-use Rattle.quotes.specs.declared.MicroPriceConfig.{MicroPriceConfig}
 use Rattle.quotes.specs.declared.TopOfBook.{TopOfBook}
 use Rattle.tally.specs.Entries.{Entry}
 use Rattle.tally.specs.Events.{Event, entries, stayAt, movedAt, totalAt, isPair, isSkip, sizeOf}
@@ -17,7 +17,7 @@ use Rattle.tally.specs.Balance.{Balanced}
 use Rattle.calibrator.specs.Observe.{rule, fresh, observed}
 use Rattle.calibrator.specs.declared.Previous.{Previous}
 use Rattle.calibrator.specs.declared.Previous.the-variants.{Nothing}
-use Rattle.image.specs.Layout.{imageLength, image}
+use Rattle.layout.specs.Layout.{imageLength, image}
 use Rattle.image.specs.Image.{saved, endSave}
 use Rattle.history.specs.Calls.{Call, run, History, historyMemory, historyRefusal, newPast, story}
 

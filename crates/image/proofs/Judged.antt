@@ -11,13 +11,13 @@ use lib.Seq.{drop-drop, take-take}
 use borrow.Author.Tests.{eqb-true, ltb-false, not-false}
 use Rattle.basics.proofs.Tests.{both}
 use Rattle.words.specs.Words.{value, wordsOf, untwos}
-use Rattle.quotes.specs.Configuration.{states, valid, checkConfig}
-use Rattle.quotes.specs.Known.{Valid}
-use Rattle.quotes.specs.Refusals.{refuseIf, firstOf}
-use Rattle.quotes.specs.declared.Check.the-variants.{Fine}
-use Rattle.quotes.specs.declared.MicroPriceConfig.{MicroPriceConfig}
-use Rattle.quotes.proofs.Known.{valid-known}
-use Rattle.quotes.proofs.Refusals.{if-fine, first-fine}
+use Rattle.refusals.specs.Refusals.{refuseIf, firstOf}
+use Rattle.refusals.specs.declared.Check.the-variants.{Fine}
+use Rattle.refusals.proofs.Refusals.{if-fine, first-fine}
+use Rattle.config.specs.Configuration.{states, valid, checkConfig}
+use Rattle.config.specs.Known.{Valid}
+use Rattle.config.specs.declared.MicroPriceConfig.{MicroPriceConfig}
+use Rattle.config.proofs.Known.{valid-known}
 use Rattle.tally.specs.Entries.{Tables, tables}
 use Rattle.tally.specs.Rules.{Memory}
 use Rattle.mirrored.specs.Mirrors.{checkMirrored}
@@ -25,9 +25,9 @@ use Rattle.mirrored.specs.Lies.{tablesIn, Lies}
 use Rattle.calibrator.specs.Observe.{wrongLengths, roomFor, broken}
 use Rattle.calibrator.specs.declared.Previous.{Previous}
 use Rattle.calibrator.proofs.Room.{room-known, lengths-known}
-use Rattle.image.specs.Layout.{headerLength, cells, imageLength, header, configIn, previousIn, tablesFrom, memoryIn, headerIn, sameWords, laidOut}
+use Rattle.layout.specs.Layout.{headerLength, cells, imageLength, header, configIn, previousIn, tablesFrom, memoryIn, headerIn, sameWords, laidOut}
 use Rattle.image.specs.Image.{saveRefusal, tooShort, lentWrong, heldRefusal, restoreRefusal, Readable}
-use Rattle.image.proofs.Headers.{same-equal}
+use Rattle.layout.proofs.Headers.{same-equal}
 
 -- ---- save
 

@@ -17,14 +17,14 @@ use Rattle.words.specs.Words.{bytesOf, wordsOf, twos, untwos, AllBytes, AllWord
 use Rattle.words.proofs.Laws.{length-bytes, length-words, words-at, words-part}
 use Rattle.words.proofs.Round.{words-back, bytes-back, bytes-drop, words-fit, words-join, twos-back}
 use Rattle.signed.specs.Totals.{within}
-use Rattle.quotes.specs.Configuration.{states, valid}
-use Rattle.quotes.specs.Known.{Valid}
-use Rattle.quotes.specs.Refusals.{refuseIf, firstOf, firstFrom}
+use Rattle.refusals.specs.Refusals.{refuseIf, firstOf, firstFrom}
+use Rattle.refusals.specs.declared.Check.{Check}
+use Rattle.refusals.specs.declared.Check.the-variants.{Fine, Refused}
+use Rattle.refusals.proofs.Refusals.{if-fine, first-fine}
+use Rattle.config.specs.Configuration.{states, valid}
+use Rattle.config.specs.Known.{Valid}
+use Rattle.config.specs.declared.MicroPriceConfig.{MicroPriceConfig}
 use Rattle.quotes.specs.States.{mirrorOf}
-use Rattle.quotes.specs.declared.Check.{Check}
-use Rattle.quotes.specs.declared.Check.the-variants.{Fine, Refused}
-use Rattle.quotes.proofs.Refusals.{if-fine, first-fine}
-use Rattle.quotes.specs.declared.MicroPriceConfig.{MicroPriceConfig}
 use Rattle.tally.specs.Entries.{Tables, tables, overTotal}
 use Rattle.tally.specs.Events.{Counts}
 use Rattle.tally.specs.Limits.{overCounter}
@@ -38,10 +38,10 @@ use Rattle.calibrator.specs.declared.Previous.{Previous}
 use Rattle.calibrator.specs.declared.Previous.the-variants.{Nothing, Quoted}
 use Rattle.calibrator.specs.declared.Record.{Record}
 use Rattle.calibrator.proofs.Room.{RightLengths, lengths-known}
-use Rattle.image.specs.Layout.{cells, imageLength, header, body, image, word, configIn, previousIn, countersIn, tablesFrom, memoryIn, headerIn, sameWords, laidOut}
+use Rattle.layout.specs.Layout.{cells, imageLength, header, body, image, word, configIn, previousIn, countersIn, tablesFrom, memoryIn, headerIn, sameWords, laidOut}
 use Rattle.image.specs.Image.{saveRefusal, endSave, savedUnless, saved, tooShort, lentWrong, heldRefusal, restoreRefusal, endRestore, takenUnless, restored}
 use Rattle.image.specs.declared.Restored.the-variants.{Config}
-use Rattle.image.proofs.Parts.{length-header}
+use Rattle.layout.proofs.Parts.{length-header}
 use Rattle.image.proofs.Judged.{save-known, restore-known}
 use Rattle.image.proofs.Ways.{heldWith}
 

@@ -8,11 +8,11 @@ use lib.IntN.{ℤ}
 use lib.ListN.{length, drop}
 use lib.Seq.{drop-drop}
 use Rattle.words.specs.Words.{wordsOf, untwos}
-use Rattle.quotes.specs.Configuration.{states, valid}
-use Rattle.quotes.specs.Refusals.{refuseIf, firstOf, refusal}
-use Rattle.quotes.specs.declared.Check.{Check}
-use Rattle.quotes.specs.declared.Check.the-variants.{Fine, Refused}
-use Rattle.quotes.specs.declared.MicroPriceConfig.{MicroPriceConfig}
+use Rattle.refusals.specs.Refusals.{refuseIf, firstOf, refusal}
+use Rattle.refusals.specs.declared.Check.{Check}
+use Rattle.refusals.specs.declared.Check.the-variants.{Fine, Refused}
+use Rattle.config.specs.Configuration.{states, valid}
+use Rattle.config.specs.declared.MicroPriceConfig.{MicroPriceConfig}
 use Rattle.tally.specs.Entries.{Tables, tables}
 use Rattle.tally.specs.Events.{Counts}
 use Rattle.tally.specs.Rules.{Memory}
@@ -21,7 +21,7 @@ use Rattle.calibrator.specs.Record.{countsOf, memory}
 use Rattle.calibrator.specs.declared.Previous.{Previous}
 use Rattle.calibrator.specs.declared.Record.{Record}
 use Rattle.mirrored.specs.Mirrors.{checkMirrored}
-use Rattle.image.specs.Layout.{headerLength, cells, configIn, recordIn, tablesFrom, memoryIn, laidOut}
+use Rattle.layout.specs.Layout.{headerLength, cells, configIn, recordIn, tablesFrom, memoryIn, laidOut}
 use Rattle.image.specs.Image.{tooShort, lentWrong, heldRefusal, restoreRefusal, endRestore, restored, Readable}
 use Rattle.image.specs.declared.Restored.the-variants.{Config}
 

@@ -5,17 +5,17 @@ use mathlib.Core.Bool.{Bool, not}
 use mathlib.Core.List.{List}
 use lib.Dec.{ltb, eqb}
 use lib.ListN.{length}
-use Rattle.quotes.specs.Configuration.{states, checkConfig}
-use Rattle.quotes.specs.Refusals.{refuseIf, firstOf}
-use Rattle.quotes.specs.declared.Check.{Check}
-use Rattle.quotes.specs.declared.Check.the-variants as Check
-use Rattle.quotes.specs.declared.MicroPriceConfig.{MicroPriceConfig}
+use Rattle.refusals.specs.Refusals.{refuseIf, firstOf}
+use Rattle.refusals.specs.declared.Check.{Check}
+use Rattle.refusals.specs.declared.Check.the-variants as Check
+use Rattle.config.specs.Configuration.{states, checkConfig}
+use Rattle.config.specs.declared.MicroPriceConfig.{MicroPriceConfig}
 use Rattle.tally.specs.Entries.{Tables}
 use Rattle.tally.specs.Rules.{Memory}
 use Rattle.mirrored.specs.Mirrors.{checkMirrored}
 use Rattle.calibrator.specs.Observe.{wrongLengths, roomFor, broken}
 use Rattle.calibrator.specs.declared.Previous.{Previous}
-use Rattle.image.specs.Layout.{headerLength, cells, imageLength, image, configIn, previousIn, memoryIn, laidOut}
+use Rattle.layout.specs.Layout.{headerLength, cells, imageLength, image, configIn, previousIn, memoryIn, laidOut}
 use Rattle.image.specs.declared.Restored.{Restored}
 use Rattle.image.specs.declared.Restored.the-variants.{Config, Refused}
 

@@ -1,8 +1,8 @@
 // The image of a calibrator: save and restore (document 01, "The image"). The record, the tables and the bytes are lent.
 use calibrator::Record;
-use quotes::Check;
-use quotes::MicroPriceConfig;
-use quotes::Refusal;
+use config::MicroPriceConfig;
+use refusals::Check;
+use refusals::Refusal;
 
 pub mod inner;
 

@@ -8,13 +8,13 @@ use lib.ListN.{length, getD}
 use borrow.Author.Tests.{ltb-false}
 use Rattle.basics.specs.Lists.{any}
 use Rattle.basics.proofs.Tests.{neither}
-use Rattle.quotes.specs.Refusals.{refuseIf, firstOf}
-use Rattle.quotes.specs.Configuration.{states}
-use Rattle.quotes.specs.Known.{Valid}
+use Rattle.refusals.specs.Refusals.{refuseIf, firstOf}
+use Rattle.refusals.specs.declared.Check.{Check}
+use Rattle.config.specs.Configuration.{states}
+use Rattle.config.specs.Known.{Valid}
+use Rattle.config.specs.declared.MicroPriceConfig.{MicroPriceConfig}
 use Rattle.quotes.specs.States.{mirrorOf}
 use Rattle.quotes.proofs.States.{mirror-below}
-use Rattle.quotes.specs.declared.MicroPriceConfig.{MicroPriceConfig}
-use Rattle.quotes.specs.declared.Check.{Check}
 use Rattle.tally.specs.Entries.{Tables}
 use Rattle.tally.specs.Events.{Counts}
 use Rattle.tally.specs.Limits.{overCounter}

@@ -10,8 +10,8 @@ use lib.ListN.{length, getD, drop, drop-of-length-le}
 use lib.Seq.{drop-cons}
 use Rattle.basics.specs.Lists.{any, allFrom}
 use Rattle.basics.proofs.Tests.{both, le-or-lt, still, gone}
-use Rattle.quotes.specs.Refusals.{firstOf, firstFrom}
-use Rattle.quotes.specs.declared.Check.{Check}
+use Rattle.refusals.specs.Refusals.{firstOf, firstFrom}
+use Rattle.refusals.specs.declared.Check.{Check}
 
 -- what is left of m at the start
 pub whole : (m : ℕ) → m ≡ m - 0

@@ -6,11 +6,11 @@ use lib.Dec.{eqb}
 use lib.IntN.{ℤ, pos, negsuc, negℤ}
 use lib.ListN.{getD}
 use Rattle.basics.specs.Lists.{any, allFrom, sum}
-use Rattle.quotes.specs.Configuration.{states}
+use Rattle.refusals.specs.Refusals.{refuseIf, firstOf, firstFrom}
+use Rattle.refusals.specs.declared.Check.{Check}
+use Rattle.config.specs.Configuration.{states}
+use Rattle.config.specs.declared.MicroPriceConfig.{MicroPriceConfig}
 use Rattle.quotes.specs.States.{mirrorOf}
-use Rattle.quotes.specs.declared.MicroPriceConfig.{MicroPriceConfig}
-use Rattle.quotes.specs.Refusals.{refuseIf, firstOf, firstFrom}
-use Rattle.quotes.specs.declared.Check.{Check}
 use Rattle.tally.specs.Entries.{Tables, overTotal}
 use Rattle.tally.specs.Events.{Counts}
 use Rattle.tally.specs.Limits.{overCounter}

@@ -1,9 +1,9 @@
 // The check of counts against their mirrors (document 01, "The fit": 6, 9, 10, 11), of tables that lie in lent slices or in an image.
 // Inner functions: for the crates above, not for users. Where one has a `requires`, each caller proves it.
 use calibrator::Counters;
-use quotes::Check;
-use quotes::MicroPriceConfig;
-use quotes::Refusal;
+use config::MicroPriceConfig;
+use refusals::Check;
+use refusals::Refusal;
 ghost use mathlib.Core.Path.{_≡_};
 ghost use mathlib.Core.Bool.{true, false, not};
 ghost use mathlib.Core.List.{[]};
@@ -11,10 +11,10 @@ ghost use Prim.Native.Nat.{ℕ, _+_, _*_, _≤_, _<_, _^_, min};
 ghost use lib.IntN.{pos};
 ghost use lib.ListN.{length, getD};
 ghost use Rattle.basics.specs.Lists.{any, sum};
-ghost use Rattle.quotes.specs.Configuration.{states};
-ghost use Rattle.quotes.specs.Known.{Valid};
+ghost use Rattle.refusals.specs.Refusals.{firstFrom};
+ghost use Rattle.config.specs.Configuration.{states};
+ghost use Rattle.config.specs.Known.{Valid};
 ghost use Rattle.quotes.specs.States.{mirrorOf};
-ghost use Rattle.quotes.specs.Refusals.{firstFrom};
 ghost use Rattle.words.specs.Words.{WordOf};
 ghost use Rattle.tally.specs.Entries.{tables, overTotal};
 ghost use Rattle.tally.specs.Limits.{overCounter};
@@ -267,7 +267,7 @@ pub fn mirrors_of(c: MicroPriceConfig) -> [usize; 256]
     requires { ⌜ Valid c ⌝ }
     ensures { λ r. ⌜ ((i : ℕ) → i < states c → getD r i 0 ≡ mirrorOf (c .«imbalance_buckets») i) ⌝ }
 {
-    let n = quotes::inner::state_count(c);
+    let n = config::inner::state_count(c);
     let mut r = [0usize; 256];
     let mut i: usize = 0;
     while i < n {
@@ -292,7 +292,7 @@ pub fn check_tables(
     requires { ⌜ Valid config × Lies imaged (states config) (length (now stay)) (length (now moved)) (length (now totals)) (length (now sb)) (length (now mb)) (length (now tb)) ⌝ }
     ensures { λ r. ⌜ r ≡ checkMirrored config (countsOf counters (tablesIn imaged (now (stay .entry)) (now (moved .entry)) (now (totals .entry)) (now (sb .entry)) (now (mb .entry)) (now (tb .entry)))) ⌝ }
 {
-    let n = quotes::inner::state_count(config);
+    let n = config::inner::state_count(config);
     let mirrors = mirrors_of(config);
     check_counts(
         n,

@@ -1,10 +1,23 @@
 // Inner functions: for the crates above, not for users. Where one has a `requires`, each caller proves it.
 use super::StateEstimate;
+use super::StateStatus;
 ghost use mathlib.Core.Path.{_≡_};
 ghost use Prim.Native.Nat.{_+_, _*_, _≤_};
 ghost use lib.ListN.{length};
 ghost use lib.Seq.{sets};
 ghost use Rattle.model.specs.Rows.{floatWord, rowWords, rowAt};
+ghost use Rattle.model.specs.Status.{statusNumber};
+
+pub fn status_number(s: StateStatus) -> u64
+    ensures { λ r. ⌜ r ≡ statusNumber s ⌝ }
+{
+    match s {
+        StateStatus::Calibrated => 0,
+        StateStatus::Rare => 1,
+        StateStatus::NoPriceMove => 2,
+        StateStatus::OutsideQuotes => 3,
+    }
+}
 
 // A float's word, zero as plus zero.
 fn float_word(x: f64) -> u64

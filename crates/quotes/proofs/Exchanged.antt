@@ -4,16 +4,18 @@ use mathlib.Core.Path.{_≡_, refl, ap}
 use mathlib.Core.Bool.{Bool, true, false, cond, _||_, or-comm, and-comm}
 use native.Mathlib.Omega.{arith}
 use lib.Dec.{leb, ltb, eqb}
-use Rattle.quotes.specs.Configuration.{most, valid, checkConfig}
+use Rattle.refusals.specs.Refusals.{firstOf}
+use Rattle.refusals.specs.declared.Check.{Check}
+use Rattle.refusals.specs.declared.Check.the-variants.{Fine, Refused}
+use Rattle.config.specs.Configuration.{most, valid, checkConfig}
+use Rattle.config.specs.Known.{Valid}
+use Rattle.config.specs.declared.MicroPriceConfig.{MicroPriceConfig}
+use Rattle.config.proofs.Known.{valid-known}
 use Rattle.quotes.specs.Quotes.{over, bad, checkQuote, spreadOf, halfTicks, exchanged}
-use Rattle.quotes.specs.Refusals.{firstOf}
 use Rattle.quotes.specs.States.{bucketOf, stateAt, at, mirrorAt, mirrorPlace, placeOf, unless, stateOf}
 use Rattle.quotes.specs.Neighbours.{paired, mirrorNeighbours, neighboursOf}
-use Rattle.quotes.specs.Known.{Valid, Accepted}
+use Rattle.quotes.specs.Known.{Accepted}
 use Rattle.quotes.specs.declared.At.{At}
-use Rattle.quotes.specs.declared.Check.{Check}
-use Rattle.quotes.specs.declared.Check.the-variants.{Fine, Refused}
-use Rattle.quotes.specs.declared.MicroPriceConfig.{MicroPriceConfig}
 use Rattle.quotes.specs.declared.Neighbours.{Neighbours}
 use Rattle.quotes.specs.declared.Neighbours.the-variants.{Skipped}
 use Rattle.quotes.specs.declared.Skip.the-variants.{Gap}
@@ -22,7 +24,7 @@ use Rattle.quotes.specs.declared.Place.the-variants.{State, NoState}
 use Rattle.quotes.specs.declared.Reason.the-variants.{SpreadOutOfRange}
 use Rattle.quotes.specs.declared.TopOfBook.{TopOfBook}
 use Rattle.quotes.proofs.Buckets.{bucket-le, bucket-exchanged}
-use Rattle.quotes.proofs.Known.{valid-known, fine-known}
+use Rattle.quotes.proofs.Known.{fine-known}
 use Rattle.quotes.proofs.States.{mirror-row, mirror-at}
 
 pub spread-exchanged : (c : MicroPriceConfig) (q : TopOfBook) → spreadOf c (exchanged q) ≡ spreadOf c q

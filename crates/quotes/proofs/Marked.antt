@@ -3,14 +3,14 @@ use Prim.Native.Nat.{ℕ}
 use mathlib.Core.Path.{_≡_, refl, sym, ap, _∙_}
 use mathlib.Core.List.{List, [], _∷_, map, List·Memᴰ, List·Memᴰ·not-nil, List·Memᴰ·cases-cons, head-eq-of-cons-eq, tail-eq-of-cons-eq}
 use mathlib.Core.Logic.{⊎-elim}
-use Rattle.quotes.specs.Configuration.{newConfig, withMinStateObservations, withMaxQuoteGapMs}
+use Rattle.refusals.specs.Refusals.{refusal}
+use Rattle.refusals.specs.declared.Check.{Check}
+use Rattle.refusals.specs.declared.Check.the-variants.{Refused}
+use Rattle.config.specs.Configuration.{newConfig, withMinStateObservations, withMaxQuoteGapMs}
+use Rattle.config.specs.declared.MicroPriceConfig.{MicroPriceConfig}
 use Rattle.quotes.specs.Quotes.{checkQuote}
-use Rattle.quotes.specs.Refusals.{refusal}
 use Rattle.quotes.specs.States.{at, stateOf, mirrored}
 use Rattle.quotes.specs.Neighbours.{neighboursOf}
-use Rattle.quotes.specs.declared.Check.{Check}
-use Rattle.quotes.specs.declared.Check.the-variants.{Refused}
-use Rattle.quotes.specs.declared.MicroPriceConfig.{MicroPriceConfig}
 use Rattle.quotes.specs.declared.Mirrored.{Mirrored}
 use Rattle.quotes.specs.declared.Mirrored.the-variants as Mirror
 use Rattle.quotes.specs.declared.Neighbours.{Neighbours}

@@ -4,10 +4,10 @@ use mathlib.Core.Path.{_≡_, refl, sym, ap, _∙_}
 use mathlib.Core.Bool.{Bool, true, false, cond}
 use native.Mathlib.Omega.{arith}
 use lib.Dec.{ltb}
+use Rattle.config.specs.declared.MicroPriceConfig.{MicroPriceConfig}
 use Rattle.quotes.specs.Quotes.{halfTicks}
 use Rattle.quotes.specs.States.{placeOf}
 use Rattle.quotes.specs.Neighbours.{paired, neighboursOf}
-use Rattle.quotes.specs.declared.MicroPriceConfig.{MicroPriceConfig}
 use Rattle.quotes.specs.declared.Neighbours.{Neighbours}
 use Rattle.quotes.specs.declared.Neighbours.the-variants.{Skipped, Counted}
 use Rattle.quotes.specs.declared.Pair.{Pair}

@@ -6,19 +6,21 @@ use native.Mathlib.Omega.{arith}
 use native.Mathlib.Nat.{mod-lt, mod-eq-of-lt, mul-comm, div-add-mod', div-eq-of-lt, mul-add-mod-self-right, mul-add-div-right, div-lt-iff-lt-mul, add-zero}
 use lib.Dec.{ltb}
 use borrow.Author.Tests.{ltb-false}
-use Rattle.quotes.specs.Configuration.{states, valid}
+use Rattle.refusals.specs.declared.Check.{Check}
+use Rattle.refusals.specs.declared.Check.the-variants.{Fine, Refused}
+use Rattle.config.specs.Configuration.{states, valid}
+use Rattle.config.specs.Known.{Valid}
+use Rattle.config.specs.declared.MicroPriceConfig.{MicroPriceConfig}
+use Rattle.config.proofs.Known.{valid-known}
 use Rattle.quotes.specs.Quotes.{spreadOf, checkQuote}
 use Rattle.quotes.specs.States.{bucketOf, stateAt, spreadIn, bucketIn, mirrorOf, at, mirrorAt, placeOf, stateOf}
-use Rattle.quotes.specs.Known.{Valid, Accepted, Located}
+use Rattle.quotes.specs.Known.{Accepted, Located}
 use Rattle.quotes.specs.declared.At.{At}
-use Rattle.quotes.specs.declared.Check.{Check}
-use Rattle.quotes.specs.declared.Check.the-variants.{Fine, Refused}
-use Rattle.quotes.specs.declared.MicroPriceConfig.{MicroPriceConfig}
 use Rattle.quotes.specs.declared.Place.the-variants.{State, NoState}
 use Rattle.quotes.specs.declared.Reason.the-variants.{SpreadOutOfRange}
 use Rattle.quotes.specs.declared.TopOfBook.{TopOfBook}
 use Rattle.quotes.proofs.Buckets.{bucket-le}
-use Rattle.quotes.proofs.Known.{valid-known, fine-known}
+use Rattle.quotes.proofs.Known.{fine-known}
 use Rattle.quotes.proofs.Ticks.{spread-least}
 use Rattle.basics.proofs.Lists.{flat-row, flat-column, flat-below}
 

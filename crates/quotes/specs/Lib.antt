@@ -1,5 +1,3 @@
-pub mod Refusals
-pub mod Configuration
 pub mod Quotes
 pub mod States
 pub mod Neighbours

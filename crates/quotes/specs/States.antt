@@ -2,13 +2,13 @@
 use Prim.Native.Nat.{ℕ, zero, suc, _+_, _-_, _*_, _/_, _%_}
 use mathlib.Core.Bool.{Bool, cond, _&&_}
 use lib.Dec.{leb, ltb}
-use Rattle.quotes.specs.Refusals.{firstOf}
-use Rattle.quotes.specs.Configuration.{states, valid, checkConfig}
+use Rattle.refusals.specs.Refusals.{firstOf}
+use Rattle.refusals.specs.declared.Check.{Check}
+use Rattle.refusals.specs.declared.Check.the-variants.{Fine, Refused}
+use Rattle.config.specs.Configuration.{states, valid, checkConfig}
+use Rattle.config.specs.declared.MicroPriceConfig.{MicroPriceConfig}
 use Rattle.quotes.specs.Quotes.{checkQuote, spreadOf}
 use Rattle.quotes.specs.declared.At.{At}
-use Rattle.quotes.specs.declared.Check.{Check}
-use Rattle.quotes.specs.declared.Check.the-variants.{Fine, Refused}
-use Rattle.quotes.specs.declared.MicroPriceConfig.{MicroPriceConfig}
 use Rattle.quotes.specs.declared.Mirrored.{Mirrored}
 use Rattle.quotes.specs.declared.Mirrored.the-variants as Mirror
 use Rattle.quotes.specs.declared.Place.{Place}

@@ -1,96 +1,22 @@
 // Inner functions: for the crates above, not for users. Where one has a `requires`, each caller proves it.
 use super::At;
-use super::Check;
-use super::MicroPriceConfig;
 use super::Neighbours;
 use super::Pair;
 use super::Place;
 use super::Reason;
-use super::Refusal;
 use super::Skip;
 use super::TopOfBook;
+use config::MicroPriceConfig;
+use config::inner::DOMAIN;
+use refusals::Check;
+use refusals::Refusal;
 ghost use mathlib.Core.Path.{_≡_};
 ghost use Prim.Native.Nat.{_+_, _-_, _*_, _≤_, _<_, min, max};
-ghost use Rattle.quotes.specs.Refusals.{numberOf, checkNumber};
-ghost use Rattle.quotes.specs.Configuration.{shape, valid, states};
+ghost use Rattle.config.specs.Known.{Valid};
 ghost use Rattle.quotes.specs.Quotes.{over, bad, onGrid, inTicks, offTick, checkQuote, spreadOf, halfTicks};
-ghost use Rattle.quotes.specs.Known.{Valid, Accepted};
+ghost use Rattle.quotes.specs.Known.{Accepted};
 ghost use Rattle.quotes.specs.States.{lowerBucket, bucketOf, mirrorOf, placeOf};
 ghost use Rattle.quotes.specs.Neighbours.{paired, neighboursOf};
-
-// The number of a refusal.
-pub fn number_of(r: Refusal) -> u64
-    ensures { λ n. ⌜ n ≡ numberOf r ⌝ }
-{
-    match r {
-        Refusal::Configuration => 1,
-        Refusal::OverDomain => 2,
-        Refusal::BadQuote => 3,
-        Refusal::OffTick => 4,
-        Refusal::EarlierTime => 5,
-        Refusal::CountLimit => 6,
-        Refusal::SliceLength => 7,
-        Refusal::LastQuoteBroken => 8,
-        Refusal::TotalsUnmirrored => 9,
-        Refusal::CellsUnmirrored => 10,
-        Refusal::CellsNotTwicePairs => 11,
-        Refusal::ImageLayout => 12,
-        Refusal::ModelRow(_) => 13,
-        Refusal::RecordingUnsorted => 14,
-        Refusal::WindowBackward => 15,
-        Refusal::NoCalibratedState => 16,
-        Refusal::SingularTransitions => 17,
-        Refusal::NotConverged => 18,
-        Refusal::Unrepresentable => 19,
-    }
-}
-
-// 0 if nothing is refused, else the refusal's number.
-pub fn check_number(k: Check) -> u64
-    ensures { λ n. ⌜ n ≡ checkNumber k ⌝ }
-{
-    match k {
-        Check::Fine => 0,
-        Check::Refused(r) => number_of(r),
-    }
-}
-
-// Most states.
-const MAX_STATES: u64 = 256;
-
-// The largest price, size and tick.
-const DOMAIN: u64 = 1_000_000_000;
-
-// The two early answers keep the product within a word.
-fn is_shape(n: u64, s: u64) -> bool
-    ensures { λ r. ⌜ r ≡ shape n s ⌝ }
-{
-    if MAX_STATES < n {
-        return false;
-    }
-    if MAX_STATES < s {
-        return false;
-    }
-    (3 <= n) & (n % 2 == 1) & (1 <= s) & (n * s <= MAX_STATES)
-}
-
-pub fn is_valid(c: MicroPriceConfig) -> bool
-    ensures { λ r. ⌜ r ≡ valid c ⌝ }
-{
-    (1 <= c.tick_size)
-        & (c.tick_size <= DOMAIN)
-        & is_shape(c.imbalance_buckets, c.spread_states)
-        & (1 <= c.min_state_observations)
-        & (1 <= c.max_quote_gap_ms)
-}
-
-// Document 01's N.
-pub fn state_count(c: MicroPriceConfig) -> usize
-    requires { ⌜ Valid c ⌝ }
-    ensures { λ r. ⌜ r ≡ states c ⌝ }
-{
-    (c.imbalance_buckets * c.spread_states) as usize
-}
 
 fn is_over(q: TopOfBook) -> bool
     ensures { λ r. ⌜ r ≡ over q ⌝ }

@@ -8,16 +8,16 @@ use native.Mathlib.Nat.{add-zero, zero-add}
 use native.Mathlib.Omega.{arith}
 use borrow.Author.Tests.{eq-eqb, le-ltb}
 use Rattle.basics.specs.Lists.{bit, count}
-use Rattle.quotes.specs.Configuration.{states, valid}
-use Rattle.quotes.specs.Known.{Valid}
+use Rattle.refusals.specs.Refusals.{refusal, refuseIf, firstOf}
+use Rattle.refusals.specs.declared.Check.{Check}
+use Rattle.refusals.specs.declared.Check.the-variants.{Fine, Refused}
+use Rattle.refusals.specs.declared.Refusal.{Refusal}
+use Rattle.config.specs.Configuration.{states, valid}
+use Rattle.config.specs.Known.{Valid}
+use Rattle.config.specs.declared.MicroPriceConfig.{MicroPriceConfig}
+use Rattle.config.proofs.Known.{valid-known}
 use Rattle.quotes.specs.Quotes.{over as overDomain, bad, offTick, checkQuote}
-use Rattle.quotes.specs.Refusals.{refusal, refuseIf, firstOf}
-use Rattle.quotes.specs.declared.Check.{Check}
-use Rattle.quotes.specs.declared.Check.the-variants.{Fine, Refused}
-use Rattle.quotes.specs.declared.MicroPriceConfig.{MicroPriceConfig}
-use Rattle.quotes.specs.declared.Refusal.{Refusal}
 use Rattle.quotes.specs.declared.TopOfBook.{TopOfBook}
-use Rattle.quotes.proofs.Known.{valid-known}
 use Rattle.tally.specs.Balance.{Sized}
 use Rattle.tally.specs.Events.{zeros}
 use Rattle.tally.specs.Limits.{over, touched}

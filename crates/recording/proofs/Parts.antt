@@ -12,11 +12,11 @@ use lib.ListN.{length, take, drop}
 use borrow.Author.Tests.{eq-eqb, ne-eqb, le-leb, lt-leb, lt-ltb, le-ltb, not-false}
 use Rattle.basics.specs.Lists.{count, any}
 use Rattle.basics.proofs.Tests.{le-or-lt}
-use Rattle.quotes.specs.Refusals.{refuseIf, firstOf}
-use Rattle.quotes.proofs.Refusals.{if-fine, first-fine}
-use Rattle.quotes.specs.declared.Check.{Check}
-use Rattle.quotes.specs.declared.Check.the-variants as Check
-use Rattle.quotes.specs.declared.Refusal.{Refusal}
+use Rattle.refusals.specs.Refusals.{refuseIf, firstOf}
+use Rattle.refusals.proofs.Refusals.{if-fine, first-fine}
+use Rattle.refusals.specs.declared.Check.{Check}
+use Rattle.refusals.specs.declared.Check.the-variants as Check
+use Rattle.refusals.specs.declared.Refusal.{Refusal}
 use Rattle.quotes.specs.declared.TopOfBook.{TopOfBook}
 use Rattle.calibrator.specs.Observe.{refuses}
 use Rattle.recording.specs.Recording.{quotesOf, uneven, sortedFrom, sorted, filter}

@@ -11,9 +11,9 @@ use lib.ListN.{length, getD}
 use borrow.Author.Tests.{eq-eqb, ne-eqb, le-leb, lt-leb, lt-ltb, le-ltb, ltb-true}
 use Rattle.basics.specs.Lists.{bit, count, any}
 use Rattle.basics.proofs.Tests.{le-or-lt, same-test}
-use Rattle.quotes.specs.Refusals.{refusal, refuseIf, firstOf}
-use Rattle.quotes.specs.declared.Check.{Check}
-use Rattle.quotes.specs.declared.Check.the-variants as Check
+use Rattle.refusals.specs.Refusals.{refusal, refuseIf, firstOf}
+use Rattle.refusals.specs.declared.Check.{Check}
+use Rattle.refusals.specs.declared.Check.the-variants as Check
 use Rattle.quotes.specs.declared.TopOfBook.{TopOfBook}
 use Rattle.recording.specs.Recording.{timeAt, quoteAt, quotesOf, sortedFrom, sorted}
 use Rattle.recording.specs.Window.{inside, before, backward, checkWindow, endsOf, windowUnless, windowOf, partEnds}

@@ -7,9 +7,9 @@ use lib.Dec.{leb, ltb}
 use lib.ListN.{take, drop}
 use denote.Ref.{RefT}
 use Rattle.basics.specs.Lists.{count, any}
-use Rattle.quotes.specs.Refusals.{refuseIf, firstOf}
-use Rattle.quotes.specs.declared.Check.{Check}
-use Rattle.quotes.specs.declared.Check.the-variants as Check
+use Rattle.refusals.specs.Refusals.{refuseIf, firstOf}
+use Rattle.refusals.specs.declared.Check.{Check}
+use Rattle.refusals.specs.declared.Check.the-variants as Check
 use Rattle.quotes.specs.declared.TopOfBook.{TopOfBook}
 use Rattle.recording.specs.Recording.{quotesOf, uneven, sorted}
 use Rattle.recording.specs.declared.Ends.{Ends}

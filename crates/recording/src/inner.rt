@@ -3,10 +3,10 @@ use super::Ends;
 use super::Recorded;
 use super::Window;
 use calibrator::Record;
-use quotes::Check;
-use quotes::MicroPriceConfig;
-use quotes::Refusal;
+use config::MicroPriceConfig;
 use quotes::TopOfBook;
+use refusals::Check;
+use refusals::Refusal;
 ghost use mathlib.Core.Path.{_≡_};
 ghost use mathlib.Core.Bool.{true};
 ghost use Prim.Native.Nat.{_+_, _*_, _≤_};
@@ -88,7 +88,7 @@ fn is_stop(answer: Check) -> bool
     match answer {
         Check::Fine => false,
         Check::Refused(refusal) => {
-            let n = quotes::inner::number_of(refusal);
+            let n = refusals::number_of(refusal);
             !((n == 3) | (n == 4))
         }
     }
@@ -101,7 +101,7 @@ fn invalid_in(answer: Check) -> u64
     match answer {
         Check::Fine => 0,
         Check::Refused(refusal) => {
-            let n = quotes::inner::number_of(refusal);
+            let n = refusals::number_of(refusal);
             ((n == 3) | (n == 4)) as u64
         }
     }

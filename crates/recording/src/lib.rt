@@ -1,7 +1,7 @@
 // Recordings: the window, and a recording counted into a calibrator (document 01, "The window", "An evening's calibration"). A recording is lent as a flat slice of five words a quote: time, bid, ask, bid size, ask size.
 use calibrator::Record;
-use quotes::Check;
-use quotes::Refusal;
+use refusals::Check;
+use refusals::Refusal;
 
 pub mod inner;
 

@@ -9,9 +9,9 @@ use lib.IntN.{ℤ}
 use lib.ListN.{length, getD, take, drop}
 use lib.Seq.{sets}
 use Rattle.basics.specs.Lists.{allFrom}
-use Rattle.quotes.specs.Configuration.{valid}
-use Rattle.quotes.specs.Refusals.{numberOf, checkNumber}
-use Rattle.quotes.specs.declared.MicroPriceConfig.{MicroPriceConfig}
+use Rattle.refusals.specs.Refusals.{numberOf, checkNumber}
+use Rattle.config.specs.Configuration.{valid}
+use Rattle.config.specs.declared.MicroPriceConfig.{MicroPriceConfig}
 use Rattle.quotes.specs.declared.TopOfBook.{TopOfBook}
 use Rattle.tally.specs.Rules.{Memory}
 use Rattle.calibrator.specs.Record.{memory}

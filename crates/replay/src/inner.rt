@@ -2,10 +2,10 @@
 use super::ReplayDone;
 use super::Replayed;
 use calibrator::Record;
+use config::MicroPriceConfig;
 use image::Restored;
-use quotes::Check;
-use quotes::MicroPriceConfig;
 use quotes::TopOfBook;
+use refusals::Check;
 ghost use mathlib.Core.Path.{_≡_};
 ghost use mathlib.Core.Bool.{true, false};
 ghost use Prim.Native.Nat.{_+_, _*_, _≤_, _<_};
@@ -39,7 +39,7 @@ fn restored_number(c: MicroPriceConfig, a: Restored) -> u64
 {
     match a {
         Restored::Config(d) => { if same_config(c, d) { 0 } else { 20 } }
-        Restored::Refused(r) => quotes::inner::number_of(r),
+        Restored::Refused(r) => refusals::number_of(r),
     }
 }
 
@@ -114,7 +114,7 @@ fn replay_quote(
     let answer = done.answer;
     let after = done.next;
     CallDone {
-        answer: quotes::inner::check_number(answer),
+        answer: refusals::check_number(answer),
         next: after,
     }
 }
@@ -170,7 +170,7 @@ fn replay_call(
             &mut room[start..end],
         );
         return CallDone {
-            answer: quotes::inner::check_number(answer),
+            answer: refusals::check_number(answer),
             next: rec,
         };
     }

@@ -1,6 +1,6 @@
 // The replay of a list of quotes, saves and restores (document 01, "The history").
 use calibrator::Record;
-use quotes::MicroPriceConfig;
+use config::MicroPriceConfig;
 
 pub mod inner;
 

@@ -3,7 +3,7 @@ use mathlib.Core.Path.{refl}
 use Prim.Native.Nat.{ℕ}
 use native.Mathlib.Omega.{arith}
 use lib.ListN.{replicate}
-use Rattle.image.specs.Layout.{header, headerIn}
+use Rattle.layout.specs.Layout.{header, headerIn}
 use Rattle.history.specs.Calls.{OwnImages, newPast}
 use Rattle.replay.specs.Replay.{callsFrom, OwnCalls}
 use Rattle.replay_cases.specs.Journal.{setup, journal, start}

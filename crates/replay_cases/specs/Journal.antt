@@ -2,8 +2,8 @@
 use mathlib.Core.List.{List, [], _∷_}
 use Prim.Native.Nat.{ℕ}
 use lib.ListN.{replicate}
-use Rattle.quotes.specs.Configuration.{newConfig, withMinStateObservations, withMaxQuoteGapMs}
-use Rattle.quotes.specs.declared.MicroPriceConfig.{MicroPriceConfig}
+use Rattle.config.specs.Configuration.{newConfig, withMinStateObservations, withMaxQuoteGapMs}
+use Rattle.config.specs.declared.MicroPriceConfig.{MicroPriceConfig}
 use Rattle.calibrator.specs.Observe.{fresh}
 use Rattle.replay.specs.Replay.{Site}
 

@@ -2,8 +2,8 @@
 use calibrator::Counters;
 use calibrator::Previous;
 use calibrator::Record;
+use config::MicroPriceConfig;
 use libc::STDOUT_FILENO;
-use quotes::MicroPriceConfig;
 use replay::Replayed;
 ghost use mathlib.Core.Path.{_≡_};
 ghost use Rattle.replay_cases.specs.Journal as Journal;

@@ -7,13 +7,14 @@ use lib.IntN.{ℤ, pos}
 use lib.Ieee.{Float}
 use lib.ListN.{take, replicate}
 use Rattle.floats.specs.Floats.{posZero}
-use Rattle.quotes.specs.Configuration.{states}
-use Rattle.quotes.specs.declared.MicroPriceConfig.{MicroPriceConfig}
+use Rattle.config.specs.Configuration.{states}
+use Rattle.config.specs.declared.MicroPriceConfig.{MicroPriceConfig}
 use Rattle.calibrator.specs.Record.{memory}
 use Rattle.calibrator.specs.declared.Record.{Record}
 use Rattle.evening.specs.Evening.{EveningOutcome, calibrated}
 use Rattle.text.specs.declared.Request.{Request}
-use Rattle.report.specs.Printed.{configOf, newRecord, Zeros, eveningOf, outcomeText, mostBytes, PutIn}
+use Rattle.lines.specs.Lines.{PutIn}
+use Rattle.report.specs.Printed.{configOf, newRecord, Zeros, eveningOf, outcomeText, mostBytes}
 
 pub evening-zeros : (r : Request) (ws : List ℕ) (c : MicroPriceConfig) (x : Record) (stay moved : List ℕ) (totals : List ℤ) (scratch : List Float) (model : List ℕ)
     → c ≡ configOf r

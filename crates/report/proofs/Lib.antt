@@ -1,4 +1,3 @@
-pub mod Within
 pub mod Evenings
 pub mod Texts
 pub mod Promised

@@ -8,7 +8,8 @@ use borrow.Author.Tests.{le-ltb}
 use lib.ListN.{length, drop}
 use lib.Seq.{sets-eq}
 use Rattle.text.proofs.Lengths.{too-long}
-use Rattle.report.specs.Printed.{badLine, printed, eveningText, mostBytes, textFor, PutIn}
+use Rattle.lines.specs.Lines.{PutIn}
+use Rattle.report.specs.Printed.{badLine, printed, eveningText, mostBytes, textFor}
 
 -- the text stands in front, whole, and what is behind it stays
 pub whole-text : (b out : List ℕ) (r : ℕ) (left : List ℕ) → mostBytes ≤ length out → PutIn (length out) out 0 (textFor (length out) b) r left

@@ -12,8 +12,9 @@ use Rattle.text.specs.declared.Read.{Read}
 use Rattle.text.specs.declared.Read.the-variants as Read
 use Rattle.text.proofs.Faithful.{text-read}
 use Rattle.text.proofs.Promised.{reading-bad, answer-request}
-use Rattle.report.specs.Printed.{printed, eveningText, mostBytes, textFor, PutIn}
-use Rattle.report.proofs.Within.{loosely}
+use Rattle.lines.specs.Lines.{PutIn}
+use Rattle.lines.proofs.Within.{loosely}
+use Rattle.report.specs.Printed.{printed, eveningText, mostBytes, textFor}
 
 -- the reading behind an answer: a request and the words in front of the recording, or bad input
 module _ (b before left : List ℕ) (x : Read) (r : ReadBy (readText b) before x left) where

@@ -6,28 +6,13 @@ use mathlib.Core.List.{List}
 use lib.Ieee.{Float}
 use Rattle.model.specs.Rows.{rowAt}
 use Rattle.model.specs.declared.StateEstimate.{StateEstimate}
-use Rattle.quotes.specs.States.{mirrorOf}
-use Rattle.quotes.specs.declared.Check.{Check}
-use Rattle.quotes.specs.declared.Check.the-variants as Check
-use Rattle.quotes.specs.declared.MicroPriceConfig.{MicroPriceConfig}
-use Rattle.quotes.specs.declared.Refusal.the-variants.{ModelRow}
+use Rattle.refusals.specs.declared.Refusal.the-variants.{ModelRow}
+use Rattle.config.specs.declared.MicroPriceConfig.{MicroPriceConfig}
 use Rattle.quotes.specs.declared.TopOfBook.{TopOfBook}
-use Rattle.signals.specs.Check.{rowFine, checkRow}
 use Rattle.signals.specs.Signal.{rowServes, sourceOf, adjustmentOf, sent, signalOfRow}
 use Rattle.signals.specs.declared.Signalled.{Signalled}
 use Rattle.signals.specs.declared.Signalled.the-variants.{Refused}
 use Rattle.signals.specs.declared.SignalSource.{SignalSource}
-
--- the check of row i, read as e, with its mirror's row
-module _ (c : MicroPriceConfig) (t : List ℕ) (i m : ℕ) (e mirror : StateEstimate) (r : Bool) (em : m ≡ mirrorOf (c .«imbalance_buckets») i) (ee : e ≡ rowAt t i) (ef : mirror ≡ rowAt t m) (er : r ≡ rowFine c i e mirror) where
-  judged : r ≡ rowFine c i (rowAt t i) (rowAt t (mirrorOf (c .«imbalance_buckets») i))
-  judged = er ∙ (λ d. rowFine c i (ee d) ((ef ∙ ap (rowAt t) em) d))
-
-  pub row-refused : r ≡ false → Check.Refused (ModelRow i) ≡ checkRow c t i
-  row-refused f = ap (λ (b : Bool). cond b Check.Fine (Check.Refused (ModelRow i))) (sym f ∙ judged)
-
-  pub row-passed : r ≡ true → Check.Fine ≡ checkRow c t i
-  row-passed f = ap (λ (b : Bool). cond b Check.Fine (Check.Refused (ModelRow i))) (sym f ∙ judged)
 
 -- the signal of row i, read as e
 module _ (c : MicroPriceConfig) (t : List ℕ) (q : TopOfBook) (i : ℕ) (e : StateEstimate) (r : Bool) (ee : e ≡ rowAt t i) (er : r ≡ rowServes c i e) where

@@ -14,22 +14,22 @@ use Rattle.model.specs.Rows.{rowAt}
 use Rattle.model.specs.declared.StateEstimate.{StateEstimate}
 use Rattle.model.specs.declared.StateStatus.the-variants.{Calibrated}
 use Rattle.model.proofs.Rows.{row-held}
-use Rattle.quotes.specs.Configuration.{states, valid, checkConfig}
-use Rattle.quotes.specs.Known.{Valid}
+use Rattle.refusals.specs.Refusals.{refuseIf, firstOf, firstFrom}
+use Rattle.refusals.specs.declared.Check.{Check}
+use Rattle.refusals.specs.declared.Check.the-variants as Check
+use Rattle.refusals.specs.declared.Refusal.the-variants.{ModelRow}
+use Rattle.refusals.proofs.Refusals.{first-fine, from-fine}
+use Rattle.config.specs.Configuration.{states, valid, checkConfig}
+use Rattle.config.specs.Known.{Valid}
+use Rattle.config.specs.declared.MicroPriceConfig.{MicroPriceConfig}
+use Rattle.config.proofs.Known.{valid-known}
 use Rattle.quotes.specs.Quotes.{over, bad, offTick, checkQuote, exchanged}
-use Rattle.quotes.specs.Refusals.{refuseIf, firstOf, firstFrom}
 use Rattle.quotes.specs.States.{mirrorOf, placeOf}
-use Rattle.quotes.specs.declared.Check.{Check}
-use Rattle.quotes.specs.declared.Check.the-variants as Check
-use Rattle.quotes.specs.declared.MicroPriceConfig.{MicroPriceConfig}
 use Rattle.quotes.specs.declared.Place.{Place}
 use Rattle.quotes.specs.declared.Place.the-variants.{State, NoState}
-use Rattle.quotes.specs.declared.Refusal.the-variants.{ModelRow}
 use Rattle.quotes.specs.declared.TopOfBook.{TopOfBook}
-use Rattle.quotes.proofs.Known.{valid-known}
-use Rattle.quotes.proofs.Refusals.{first-fine, from-fine}
 use Rattle.quotes.proofs.States.{place-located, state-located}
-use Rattle.signals.specs.Check.{halfSpreadOf, hasStatus, bucketIs, spreadIs, statusKnown, floatsFinite, noMinusZero, shareInRange, fallbackAtMid, insideQuotes, outsideQuotes, stateMirrors, rowFine, checkRow, wrongLength, checkModel}
+use Rattle.model_check.specs.Check.{halfSpreadOf, hasStatus, bucketIs, spreadIs, statusKnown, floatsFinite, noMinusZero, shareInRange, fallbackAtMid, insideQuotes, outsideQuotes, stateMirrors, rowFine, checkRow, wrongLength, checkModel}
 use Rattle.signals.specs.Claims.{RowsMirror, AnswersMirror}
 use Rattle.signals.specs.Signal.{rowServes, adjustmentOf, sourceOf, sent, signalAt, sentUnless, signalRefusal, signalOf}
 use Rattle.signals.specs.declared.Signalled.the-variants.{Refused}

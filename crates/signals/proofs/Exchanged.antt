@@ -5,32 +5,35 @@ use mathlib.Core.Bool.{Bool, true, false, cond, not, _||_, _&&_, true≢false, f
 use mathlib.Core.List.{List}
 use native.Mathlib.Omega.{arith}
 use lib.Dec.{leb, eqb}
-use lib.Ieee.{Float, nan, inf, fin, binary64, add, eq, le, ofBits}
+use lib.Ieee.{Float, binary64, add, eq, le, ofBits}
 use lib.Ieee.Scale.{finite}
 use Rattle.floats.specs.Floats.{posZero, abs, halfSpread}
 use Rattle.model.specs.Rows.{rowAt}
 use Rattle.model.specs.declared.StateEstimate.{StateEstimate}
 use Rattle.model.proofs.Rows.{row-held}
-use Rattle.quotes.specs.Known.{Valid, Located}
+use Rattle.refusals.specs.declared.Check.{Check}
+use Rattle.refusals.specs.declared.Check.the-variants as Check
+use Rattle.refusals.specs.declared.Refusal.the-variants.{ModelRow}
+use Rattle.config.specs.Known.{Valid}
+use Rattle.config.specs.declared.MicroPriceConfig.{MicroPriceConfig}
+use Rattle.config.proofs.Known.{valid-known}
+use Rattle.quotes.specs.Known.{Located}
 use Rattle.quotes.specs.Quotes.{exchanged}
 use Rattle.quotes.specs.States.{spreadIn, mirrorPlace, placeOf, stateOf}
 use Rattle.quotes.specs.declared.At.{At}
-use Rattle.quotes.specs.declared.Check.{Check}
-use Rattle.quotes.specs.declared.Check.the-variants as Check
-use Rattle.quotes.specs.declared.MicroPriceConfig.{MicroPriceConfig}
 use Rattle.quotes.specs.declared.Place.{Place}
 use Rattle.quotes.specs.declared.Place.the-variants.{State, NoState}
-use Rattle.quotes.specs.declared.Refusal.the-variants.{ModelRow}
 use Rattle.quotes.specs.declared.TopOfBook.{TopOfBook}
 use Rattle.quotes.proofs.Exchanged.{check-exchanged, place-exchanged}
-use Rattle.quotes.proofs.Known.{valid-known, fine-known}
+use Rattle.quotes.proofs.Known.{fine-known}
 use Rattle.quotes.proofs.States.{mirror-keeps-spread, place-located}
-use Rattle.signals.specs.Check.{halfSpreadOf}
+use Rattle.model_check.specs.Check.{halfSpreadOf}
 use Rattle.signals.specs.Claims.{RowsMirror, SignalsMirror, AnswersMirror}
 use Rattle.signals.specs.Signal.{rowServes, adjustmentOf, sourceOf, signalAt, sentUnless, signalRefusal, signalOf}
 use Rattle.signals.specs.declared.MicroPriceSignal.{MicroPriceSignal}
 use Rattle.signals.specs.declared.Signalled.the-variants.{Sent, Refused}
 use Rattle.signals.proofs.Usable.{unrefused}
+use Rattle.floats.proofs.Signs.{abs-finite}
 use Rattle.floats.proofs.Zeros.{sum-zero, same-size}
 
 zeros-sum : add binary64 posZero posZero ≡ posZero
@@ -40,12 +43,6 @@ zeros-sum = refl
 zero-is : eq posZero posZero ≡ true
 unfolding eq ofBits
 zero-is = refl
-
-abs-finite : (x : Float) → finite (abs x) ≡ finite x
-unfolding abs
-abs-finite nan = refl
-abs-finite (inf s) = refl
-abs-finite (fin s m e) = refl
 
 -- the rows of mirrored states serve alike
 module _ (c : MicroPriceConfig) (t : List ℕ) (a : At) (v : Valid c) (l : Located c a) (h : RowsMirror (rowAt t (a .state)) (rowAt t (a .mirror))) where

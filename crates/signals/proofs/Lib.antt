@@ -1,5 +1,3 @@
-pub mod Finite
-pub mod Halves
 pub mod Answers
 pub mod Usable
 pub mod Within

@@ -5,10 +5,10 @@ use mathlib.Core.List.{List, [], _∷_, _++_}
 use lib.Ieee.{add, lt, le, eq, ofBits, toBits}
 use Rattle.floats.specs.Floats.{posZero, abs, half, fromBits}
 use Rattle.model.specs.declared.StateStatus.the-variants.{Rare}
-use Rattle.quotes.specs.declared.Check.the-variants.{Fine}
+use Rattle.refusals.specs.declared.Check.the-variants.{Fine}
 use Rattle.quotes.specs.declared.TopOfBook.{TopOfBook}
 use Rattle.quotes.proofs.Marked.{marked}
-use Rattle.signals.specs.Check.{rowFine, checkModel}
+use Rattle.model_check.specs.Check.{rowFine, checkModel}
 use Rattle.signals.specs.Signal.{rowServes, sent, signalOf}
 use Rattle.signals.specs.declared.SignalSource.the-variants.{MicroPrice, MidFallback, SpreadOutOfRange}
 

@@ -6,14 +6,14 @@ use mathlib.Core.List.{List}
 use lib.ListN.{length}
 use lib.Dec.{eqb}
 use borrow.Author.Tests.{not-false, eqb-true}
-use Rattle.quotes.specs.Configuration.{states, valid, checkConfig}
+use Rattle.refusals.specs.Refusals.{refuseIf, firstOf}
+use Rattle.refusals.specs.declared.Check.the-variants.{Fine}
+use Rattle.refusals.proofs.Refusals.{if-fine, first-fine}
+use Rattle.config.specs.Configuration.{states, valid, checkConfig}
+use Rattle.config.specs.declared.MicroPriceConfig.{MicroPriceConfig}
 use Rattle.quotes.specs.Quotes.{checkQuote}
-use Rattle.quotes.specs.Refusals.{refuseIf, firstOf}
-use Rattle.quotes.specs.declared.Check.the-variants.{Fine}
-use Rattle.quotes.specs.declared.MicroPriceConfig.{MicroPriceConfig}
 use Rattle.quotes.specs.declared.TopOfBook.{TopOfBook}
-use Rattle.quotes.proofs.Refusals.{if-fine, first-fine}
-use Rattle.signals.specs.Check.{wrongLength}
+use Rattle.model_check.specs.Check.{wrongLength}
 use Rattle.signals.specs.Signal.{signalRefusal}
 
 pub record Usable (c : MicroPriceConfig) (t : List ℕ) (q : TopOfBook) : Type 0 where

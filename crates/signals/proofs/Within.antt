@@ -16,25 +16,27 @@ use Rattle.floats.proofs.Within.{values-le}
 use Rattle.model.specs.Rows.{rowAt}
 use Rattle.model.specs.declared.StateEstimate.{StateEstimate}
 use Rattle.model.specs.declared.StateStatus.the-variants.{Calibrated}
-use Rattle.quotes.specs.Known.{Valid, Accepted}
+use Rattle.refusals.specs.declared.Check.{Check}
+use Rattle.refusals.specs.declared.Check.the-variants as Check
+use Rattle.refusals.specs.declared.Refusal.the-variants.{ModelRow}
+use Rattle.config.specs.Known.{Valid}
+use Rattle.config.specs.declared.MicroPriceConfig.{MicroPriceConfig}
+use Rattle.config.proofs.Known.{valid-known}
+use Rattle.quotes.specs.Known.{Accepted}
 use Rattle.quotes.specs.States.{spreadIn, placeOf}
 use Rattle.quotes.specs.declared.At.{At}
-use Rattle.quotes.specs.declared.Check.{Check}
-use Rattle.quotes.specs.declared.Check.the-variants as Check
-use Rattle.quotes.specs.declared.MicroPriceConfig.{MicroPriceConfig}
 use Rattle.quotes.specs.declared.Place.{Place}
 use Rattle.quotes.specs.declared.Place.the-variants.{State, NoState}
-use Rattle.quotes.specs.declared.Refusal.the-variants.{ModelRow}
 use Rattle.quotes.specs.declared.TopOfBook.{TopOfBook}
-use Rattle.quotes.proofs.Known.{valid-known, fine-known}
+use Rattle.quotes.proofs.Known.{fine-known}
 use Rattle.quotes.proofs.States.{place-located, place-spread}
 use Rattle.quotes.proofs.Ticks.{spread-whole}
-use Rattle.signals.specs.Check.{halfSpreadOf, hasStatus}
+use Rattle.model_check.specs.Check.{halfSpreadOf, hasStatus}
 use Rattle.signals.specs.Claims.{Within}
 use Rattle.signals.specs.Signal.{rowServes, adjustmentOf, sourceOf, sent, signalAt, sentUnless, signalRefusal, signalOf}
 use Rattle.signals.specs.declared.MicroPriceSignal.{MicroPriceSignal}
 use Rattle.signals.specs.declared.Signalled.the-variants.{Sent, Refused}
-use Rattle.signals.proofs.Halves.{width-most}
+use Rattle.quotes.proofs.Widths.{width-most}
 use Rattle.signals.proofs.Usable.{unrefused}
 
 half-within : (q : TopOfBook) (w : ℕ) (x : Float) → w < 2 ^ 53 → w ≡ q .ask - q .bid → T (finite x) → T (le (abs x) (half w)) → Within q x

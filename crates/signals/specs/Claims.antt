@@ -6,7 +6,7 @@ use lib.Ieee.{Float, binary64, add}
 use lib.Ieee.Exact.{HasValue}
 use Rattle.floats.specs.Floats.{posZero, abs}
 use Rattle.model.specs.declared.StateEstimate.{StateEstimate}
-use Rattle.quotes.specs.Refusals.{numberOf}
+use Rattle.refusals.specs.Refusals.{numberOf}
 use Rattle.quotes.specs.declared.TopOfBook.{TopOfBook}
 use Rattle.signals.specs.declared.MicroPriceSignal.{MicroPriceSignal}
 use Rattle.signals.specs.declared.Signalled.{Signalled}

@@ -11,18 +11,18 @@ use Rattle.model.specs.Rows.{rowAt}
 use Rattle.model.specs.declared.StateEstimate.{StateEstimate}
 use Rattle.model.specs.declared.StateStatus.{StateStatus}
 use Rattle.model.specs.declared.StateStatus.the-variants.{Calibrated, Rare, NoPriceMove, OutsideQuotes}
-use Rattle.quotes.specs.Configuration.{checkConfig}
+use Rattle.refusals.specs.Refusals.{refuseIf, firstOf}
+use Rattle.refusals.specs.declared.Check.{Check}
+use Rattle.refusals.specs.declared.Check.the-variants as Check
+use Rattle.refusals.specs.declared.Refusal.the-variants.{ModelRow}
+use Rattle.config.specs.Configuration.{checkConfig}
+use Rattle.config.specs.declared.MicroPriceConfig.{MicroPriceConfig}
 use Rattle.quotes.specs.Quotes.{checkQuote}
-use Rattle.quotes.specs.Refusals.{refuseIf, firstOf}
 use Rattle.quotes.specs.States.{placeOf}
-use Rattle.quotes.specs.declared.Check.{Check}
-use Rattle.quotes.specs.declared.Check.the-variants as Check
-use Rattle.quotes.specs.declared.MicroPriceConfig.{MicroPriceConfig}
 use Rattle.quotes.specs.declared.Place.{Place}
 use Rattle.quotes.specs.declared.Place.the-variants.{State, NoState}
-use Rattle.quotes.specs.declared.Refusal.the-variants.{ModelRow}
 use Rattle.quotes.specs.declared.TopOfBook.{TopOfBook}
-use Rattle.signals.specs.Check.{halfSpreadOf, hasStatus, wrongLength}
+use Rattle.model_check.specs.Check.{halfSpreadOf, hasStatus, wrongLength}
 use Rattle.signals.specs.declared.Signalled.{Signalled}
 use Rattle.signals.specs.declared.Signalled.the-variants.{Sent, Refused}
 use Rattle.signals.specs.declared.SignalSource.{SignalSource}

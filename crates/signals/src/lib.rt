@@ -1,13 +1,12 @@
-// The model check and the signal (document 01, "Model and signal").
+// The signal (document 01, "Model and signal").
 pub mod inner;
 
+use config::MicroPriceConfig;
 use model::StateStatus;
-use quotes::Check;
-use quotes::MicroPriceConfig;
-use quotes::Refusal;
 use quotes::TopOfBook;
+use refusals::Check;
+use refusals::Refusal;
 ghost use mathlib.Core.Path.{_≡_};
-ghost use Rattle.signals.specs.Check.{checkModel};
 ghost use Rattle.signals.specs.Signal.{signalOf};
 
 // Why a signal is what it is: `sourceNumber` of specs/Signal.antt.
@@ -38,28 +37,14 @@ pub enum Signalled {
     Refused(Refusal),
 }
 
-// Refuses a model table that is not one of the configuration, at its first bad row.
-pub fn check_model(config: MicroPriceConfig, table: &[u64]) -> Check
-    ensures { λ r. ⌜ r ≡ checkModel config (now (table .entry)) ⌝ }
-{
-    if !quotes::inner::is_valid(config) {
-        return Check::Refused(Refusal::Configuration);
-    }
-    let n = quotes::inner::state_count(config);
-    if table.len() != 7 * n {
-        return Check::Refused(Refusal::SliceLength);
-    }
-    inner::check_rows(config, table, n)
-}
-
 // The signal of a quote. Of the table only the row of the quote's state is read.
 pub fn signal(config: MicroPriceConfig, table: &[u64], quote: TopOfBook) -> Signalled
     ensures { λ r. ⌜ r ≡ signalOf config (now (table .entry)) quote ⌝ }
 {
-    if !quotes::inner::is_valid(config) {
+    if !config::inner::is_valid(config) {
         return Signalled::Refused(Refusal::Configuration);
     }
-    if table.len() != 7 * quotes::inner::state_count(config) {
+    if table.len() != 7 * config::inner::state_count(config) {
         return Signalled::Refused(Refusal::SliceLength);
     }
     let checked = quotes::inner::check_quote(config, quote);

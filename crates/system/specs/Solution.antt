@@ -4,9 +4,9 @@ use mathlib.Core.Path.{_≡_}
 use mathlib.Core.List.{List}
 use lib.IntN.{ℤ}
 use lib.Ieee.{Float}
-use Rattle.quotes.specs.Refusals.{refusal}
-use Rattle.quotes.specs.declared.Check.{Check}
-use Rattle.quotes.specs.declared.Check.the-variants.{Fine, Refused}
+use Rattle.refusals.specs.Refusals.{refusal}
+use Rattle.refusals.specs.declared.Check.{Check}
+use Rattle.refusals.specs.declared.Check.the-variants.{Fine, Refused}
 use Rattle.marking.specs.Marks.{Cells}
 use Rattle.linear.specs.Arithmetic.{rounded}
 use Rattle.linear.specs.Elimination.{Answer, solved, singular, gaussJordan}

@@ -1,8 +1,8 @@
 // The rows of the fit and the solution of its system (document 01, "The fit").
 // Inner functions: for the crates above, not for users. Where one has a `requires`, each caller proves it.
 use linear::Solve;
-use quotes::Check;
-use quotes::Refusal;
+use refusals::Check;
+use refusals::Refusal;
 use series::Sum;
 ghost use mathlib.Core.Path.{_≡_};
 ghost use mathlib.Core.Bool.{true, cond, not};

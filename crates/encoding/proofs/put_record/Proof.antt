@@ -5,8 +5,8 @@ use borrow.Author.Needs.{needs}
 use Rattle.encoding.proofs.put_record.Statement.{statement}
 use Rattle.encoding.proofs.put_record.Tie as tie
 
-words-of-requires : tie.Need-words-of-requires
-words-of-requires c κs = search needs
+previous-words-requires : tie.Need-previous-words-requires
+previous-words-requires c κs = search needs
 
 array-read-w : tie.Need-array-read-w
 array-read-w c = search needs
@@ -62,13 +62,13 @@ same-length c = simp length-set
 returns : tie.Need-returns
 returns c =
     let a = c .before .before .before .args in
-    record-put (a .w .now) (c .before .before .before .pre) (a .rec .previous) (a .rec .counters) (c .before .words-of .result) (c .before .words-of .ensures)
+    record-put (a .w .now) (c .before .before .before .pre) (a .rec .previous) (a .rec .counters) (c .before .previous-words .result) (c .before .previous-words .ensures)
 
 pub put-record-spec : {M : Type 1} → statement M
 put-record-spec =
     tie.close
     (tie.spec
-    words-of-requires
+    previous-words-requires
     array-read-w
     slice-write-w
     array-read-w-2

@@ -45,8 +45,8 @@ use denote.Signature.{plain, typesAt, shrSliceOf}
 use Rattle.evening.specs.declared.EveningDone.{EveningDone}
 use Rattle.calibrator.proofs.Record as T
 use Rattle.calibrator.proofs.Record.Laws as T′
-use Rattle.quotes.proofs.MicroPriceConfig as Q
-use Rattle.quotes.proofs.MicroPriceConfig.Laws as Q′
+use Rattle.config.proofs.MicroPriceConfig as Q
+use Rattle.config.proofs.MicroPriceConfig.Laws as Q′
 use Rattle.evening.proofs.EveningDone as D
 use Rattle.evening.proofs.EveningDone.Laws as D′
 use Rattle.evening.proofs.Evening as N

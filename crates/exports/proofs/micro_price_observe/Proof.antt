@@ -1,6 +1,6 @@
 use mathlib.Core.Path.{sym, _∙_, ap}
 use borrow.Author.Tests.{not-true, not-false}
-use Rattle.quotes.specs.Refusals.{checkNumber}
+use Rattle.refusals.specs.Refusals.{checkNumber}
 use Rattle.calibrator.specs.Record.{ended}
 use Rattle.calibrator.specs.Observe.{observed}
 use Rattle.encoding.proofs.Laws.{Encoded, encoded-by}

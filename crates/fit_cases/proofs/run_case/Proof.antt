@@ -1,8 +1,15 @@
-use mathlib.Core.Path.{sym}
+use Prim.Native.Nat.{ℕ, _*_, _≤_}
+use native.Mathlib.Nat.{mul-le-mul-right}
+use native.Mathlib.Omega.{arith}
+use mathlib.Core.Path.{_≡_, sym}
 use lib.Seq.{length-take-le}
 use borrow.Author.Needs.{needs}
 use Rattle.fit_cases.proofs.run_case.Statement.{statement}
 use Rattle.fit_cases.proofs.run_case.Tie as tie
+
+-- a product with a number of states
+small : (n b r : ℕ) → n ≤ 27 → r ≡ n * b → r ≤ 27 * b
+small n b r h e = rw e (mul-le-mul-right b h)
 
 states-of-requires : tie.Need-states-of-requires
 states-of-requires c κs = search needs
@@ -32,16 +39,16 @@ fill-requires : tie.Need-fill-requires
 fill-requires c κs = search needs
 
 array-share-prefix-stay : tie.Need-array-share-prefix-stay
-array-share-prefix-stay c = search needs
+array-share-prefix-stay c = omega (arith, small _ _ _ (omega arith) (c .before .before .before .before .before .before .before .before .product .ensures .0))
 
 slice-aggregate-fit-tables : tie.Need-slice-aggregate-fit-tables
-slice-aggregate-fit-tables c = sym (length-take-le _ _ (search needs))
+slice-aggregate-fit-tables c = sym (length-take-le _ _ (omega (arith, small _ _ _ (omega arith) (c .before .before .before .before .before .before .before .before .before .product .ensures .0))))
 
 array-share-prefix-moved : tie.Need-array-share-prefix-moved
-array-share-prefix-moved c = search needs
+array-share-prefix-moved c = omega (arith, small _ _ _ (omega arith) (c .before .before .before .before .before .before .before .before .before .product .ensures .0))
 
 slice-aggregate-fit-tables-2 : tie.Need-slice-aggregate-fit-tables-2
-slice-aggregate-fit-tables-2 c = sym (length-take-le _ _ (search needs))
+slice-aggregate-fit-tables-2 c = sym (length-take-le _ _ (omega (arith, small _ _ _ (omega arith) (c .before .before .before .before .before .before .before .before .before .before .product .ensures .0))))
 
 array-share-prefix-totals : tie.Need-array-share-prefix-totals
 array-share-prefix-totals c = search needs
@@ -50,10 +57,10 @@ slice-aggregate-fit-tables-3 : tie.Need-slice-aggregate-fit-tables-3
 slice-aggregate-fit-tables-3 c = sym (length-take-le _ _ (search needs))
 
 array-borrow-prefix-scratch : tie.Need-array-borrow-prefix-scratch
-array-borrow-prefix-scratch c = search needs
+array-borrow-prefix-scratch c = omega (arith, small _ _ _ (omega arith) (c .before .before .before .before .before .before .before .before .before .before .product2 .ensures .0))
 
 slice-aggregate-fit-tables-4 : tie.Need-slice-aggregate-fit-tables-4
-slice-aggregate-fit-tables-4 c = sym (length-take-le _ _ (search needs))
+slice-aggregate-fit-tables-4 c = sym (length-take-le _ _ (omega (arith, small _ _ _ (omega arith) (c .before .before .before .before .before .before .before .before .before .before .before .product2 .ensures .0))))
 
 mul-model : tie.Need-mul-model
 mul-model c = search needs

@@ -7,11 +7,11 @@ use lib.IntN.{ℤ}
 use lib.ListN.{getD}
 use borrow.Author.Count.{falls}
 use borrow.Author.Needs.{needs}
-use Rattle.quotes.specs.Refusals.{firstFrom}
-use Rattle.quotes.specs.declared.Check.{Check}
+use Rattle.refusals.specs.Refusals.{firstFrom}
+use Rattle.refusals.specs.declared.Check.{Check}
 use Rattle.mirrored.specs.Mirrors.{checkState}
 use Rattle.mirrored.specs.Lies.{tablesIn}
-use Rattle.quotes.proofs.Refusals.{first-step, first-stop, first-end}
+use Rattle.refusals.proofs.Refusals.{first-step, first-stop, first-end}
 use Rattle.mirrored.proofs.Walks.{whole}
 use Rattle.mirrored.proofs.check_states.Statement.{statement}
 use Rattle.mirrored.proofs.check_states.Tie as tie

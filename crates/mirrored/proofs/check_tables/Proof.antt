@@ -1,6 +1,6 @@
 use native.Mathlib.Omega.{arith}
 use borrow.Author.Needs.{needs}
-use Rattle.quotes.specs.Configuration.{states}
+use Rattle.config.specs.Configuration.{states}
 use Rattle.quotes.specs.States.{mirrorOf}
 use Rattle.calibrator.specs.Record.{countsOf}
 use Rattle.mirrored.specs.Lies.{tablesIn}

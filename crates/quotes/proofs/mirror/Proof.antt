@@ -1,7 +1,7 @@
 use mathlib.Core.Path.{sym, _∙_}
 use native.Mathlib.Omega.{arith}
 use borrow.Author.Tests.{not-true, not-false, lt-ltb, le-ltb}
-use Rattle.quotes.proofs.Known.{valid-known}
+use Rattle.config.proofs.Known.{valid-known}
 use borrow.Author.Needs.{needs}
 use Rattle.quotes.proofs.mirror.Statement.{statement}
 use Rattle.quotes.proofs.mirror.Tie as tie

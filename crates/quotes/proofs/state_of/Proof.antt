@@ -1,5 +1,6 @@
 use borrow.Author.Tests.{not-true, not-false}
-use Rattle.quotes.proofs.Known.{valid-known, fine-known}
+use Rattle.config.proofs.Known.{valid-known}
+use Rattle.quotes.proofs.Known.{fine-known}
 use mathlib.Core.Path.{sym, _∙_}
 use borrow.Author.Needs.{needs}
 use Rattle.quotes.proofs.state_of.Statement.{statement}

@@ -43,8 +43,8 @@ use denote.Signature.{plain, typesAt, shrSliceOf}
 use Rattle.replay.specs.declared.ReplayDone.{ReplayDone}
 use Rattle.calibrator.proofs.Record as T
 use Rattle.calibrator.proofs.Record.Laws as T′
-use Rattle.quotes.proofs.MicroPriceConfig as Q
-use Rattle.quotes.proofs.MicroPriceConfig.Laws as Q′
+use Rattle.config.proofs.MicroPriceConfig as Q
+use Rattle.config.proofs.MicroPriceConfig.Laws as Q′
 use Rattle.replay.proofs.ReplayDone as D
 use Rattle.replay.proofs.ReplayDone.Laws as D′
 use Rattle.replay.proofs.Replayed as N

@@ -2,7 +2,7 @@ use mathlib.Core.Path.{sym}
 use native.Mathlib.Omega.{arith}
 use lib.Seq.{length-take-le}
 use Rattle.text.specs.Reading.{bad}
-use Rattle.report.proofs.Within.{bytes-in, loosely}
+use Rattle.lines.proofs.Within.{bytes-in, loosely}
 use Rattle.report.proofs.Texts.{asked-by, bad-by, text-by}
 use borrow.Author.Needs.{needs}
 use Rattle.report.proofs.put_text.Statement.{statement}

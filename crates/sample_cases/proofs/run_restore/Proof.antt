@@ -4,9 +4,6 @@ use borrow.Author.Needs.{needs}
 use Rattle.sample_cases.proofs.run_restore.Statement.{statement}
 use Rattle.sample_cases.proofs.run_restore.Tie as tie
 
-image-room-requires : tie.Need-image-room-requires
-image-room-requires c κs = search needs
-
 image-length-requires : tie.Need-image-length-requires
 image-length-requires c κs = search needs
 
@@ -38,7 +35,6 @@ pub run-restore-spec : {M : Type 1} → statement M
 run-restore-spec =
     tie.close
     (tie.spec
-    image-room-requires
     image-length-requires
     array-borrow-prefix-room
     slice-aggregate-run-image

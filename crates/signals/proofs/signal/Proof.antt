@@ -5,9 +5,10 @@ use native.Mathlib.Omega.{arith}
 use lib.ListN.{length}
 use borrow.Author.Needs.{needs}
 use borrow.Author.Tests.{not-true, not-false, eq-eqb, ne-eqb}
-use Rattle.quotes.specs.Configuration.{states, valid}
-use Rattle.quotes.specs.Known.{Valid}
-use Rattle.quotes.proofs.Known.{valid-known, fine-known}
+use Rattle.config.specs.Configuration.{states, valid}
+use Rattle.config.specs.Known.{Valid}
+use Rattle.config.proofs.Known.{valid-known}
+use Rattle.quotes.proofs.Known.{fine-known}
 use Rattle.signals.proofs.signal.Statement.{statement}
 use Rattle.signals.proofs.signal.Tie as tie
 

@@ -1,6 +1,6 @@
 use mathlib.Core.Path.{sym, ap, _∙_}
 use lib.ListN.{length}
-use Rattle.quotes.specs.Configuration.{states}
+use Rattle.config.specs.Configuration.{states}
 use Rattle.calibrator.proofs.Room.{room-known, lengths-known}
 use Rattle.fit.specs.Fit.{wrongRoom}
 use borrow.Author.Needs.{needs}

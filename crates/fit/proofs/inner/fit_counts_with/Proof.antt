@@ -4,7 +4,7 @@ use lib.ListN.{length, replicate}
 use Rattle.floats.specs.Floats.{posZero}
 use Rattle.calibrator.specs.Record.{memory}
 use Rattle.fit.specs.Fit.{fitOf, givenOf, fitUnless}
-use Rattle.quotes.specs.Configuration.{states}
+use Rattle.config.specs.Configuration.{states}
 use Rattle.fit.proofs.Known.{fit-known, exact-of, usable-of, scratch-of, whole}
 use borrow.Author.Needs.{needs}
 use Rattle.fit.proofs.inner.fit_counts_with.Statement.{statement}

@@ -2,9 +2,9 @@ use lib.ListN.{drop}
 use Rattle.calibrator.specs.Observe.{wrongLengths}
 use Rattle.calibrator.specs.Record.{countsOf}
 use Rattle.tally.specs.Entries.{Tables, tables}
-use Rattle.quotes.specs.Configuration.{states}
+use Rattle.config.specs.Configuration.{states}
 use Rattle.mirrored.specs.Mirrors.{checkMirrored}
-use Rattle.image.specs.Layout.{headerLength, tablesFrom}
+use Rattle.layout.specs.Layout.{headerLength, tablesFrom}
 use Rattle.image.proofs.Ways.{held-seven, held-eight, held-checked, held-is}
 use mathlib.Core.Path.{sym, ap, _∙_}
 use lib.ListN.{length}

@@ -1,11 +1,11 @@
 use Rattle.tally.specs.Entries.{tables}
-use Rattle.quotes.specs.Configuration.{valid}
+use Rattle.config.specs.Configuration.{valid}
 use Rattle.image.proofs.Ways.{way-short, way-invalid, way-layout, way-held}
 use Rattle.image.proofs.Judged.{laid-out-whole}
 use mathlib.Core.Path.{sym, ap, _∙_}
 use borrow.Author.Tests.{lt-ltb, le-ltb, not-true, not-false}
-use Rattle.quotes.proofs.Known.{valid-known}
-use Rattle.image.specs.Layout.{imageLength}
+use Rattle.config.proofs.Known.{valid-known}
+use Rattle.layout.specs.Layout.{imageLength}
 use borrow.Author.Needs.{needs}
 use Rattle.image.proofs.inner.check_restore.Statement.{statement}
 use Rattle.image.proofs.inner.check_restore.Tie as tie

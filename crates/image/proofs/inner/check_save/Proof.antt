@@ -2,7 +2,7 @@ use mathlib.Core.Path.{sym, _∙_}
 use lib.ListN.{length}
 use borrow.Author.Tests.{eq-eqb, ne-eqb}
 use Rattle.calibrator.proofs.Room.{room-known, lengths-known}
-use Rattle.quotes.specs.Configuration.{states}
+use Rattle.config.specs.Configuration.{states}
 use borrow.Author.Needs.{needs}
 use Rattle.image.proofs.inner.check_save.Statement.{statement}
 use Rattle.image.proofs.inner.check_save.Tie as tie

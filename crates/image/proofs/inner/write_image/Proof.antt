@@ -1,9 +1,9 @@
 use native.Mathlib.Omega.{arith}
 use lib.ListN.{length}
 use Rattle.calibrator.proofs.Room.{lengths-known}
-use Rattle.quotes.specs.Configuration.{states}
-use Rattle.image.specs.Layout.{header}
-use Rattle.image.proofs.Parts.{image-is}
+use Rattle.config.specs.Configuration.{states}
+use Rattle.layout.specs.Layout.{header}
+use Rattle.layout.proofs.Parts.{image-is}
 use borrow.Author.Needs.{needs}
 use Rattle.image.proofs.inner.write_image.Statement.{statement}
 use Rattle.image.proofs.inner.write_image.Tie as tie

@@ -4,10 +4,10 @@ use Rattle.sample_cases.proofs.models.show_signals.Statement.{statement
 use Rattle.sample_cases.proofs.models.show_signals.Tie as tie
 
 abbrev Inv-loop : tie.InvT-loop
-Inv-loop config table words at count i₀ i = count < 1024
+Inv-loop config table words at count i₀ t8 i = count < 1024
 
 abbrev μ-loop : tie.MeasureT-loop
-μ-loop config table words at count i₀ i = count - i
+μ-loop config table words at count i₀ t8 i = count - i
 
 count-at-requires : tie.Need-count-at-requires Inv-loop μ-loop
 count-at-requires c κs = search needs
@@ -15,8 +15,11 @@ count-at-requires c κs = search needs
 loop-holds : tie.Need-loop-holds Inv-loop μ-loop
 loop-holds c = search needs
 
-show-gap-requires : tie.Need-show-gap-requires Inv-loop μ-loop
-show-gap-requires c κs = search needs
+slice-aggregate-write-all : tie.Need-slice-aggregate-write-all Inv-loop μ-loop
+slice-aggregate-write-all c = search needs
+
+write-all-requires : tie.Need-write-all-requires Inv-loop μ-loop
+write-all-requires c κs = search needs
 
 add-quote-at : tie.Need-add-quote-at Inv-loop μ-loop
 add-quote-at c = search needs
@@ -56,7 +59,8 @@ show-signals-spec =
     μ-loop
     count-at-requires
     loop-holds
-    show-gap-requires
+    slice-aggregate-write-all
+    write-all-requires
     add-quote-at
     mul-quote-at
     add-quote-at-2

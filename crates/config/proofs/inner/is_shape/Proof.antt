@@ -1,0 +1,22 @@
+use mathlib.Core.Path.{sym}
+use mathlib.Core.Logic.{inl, inr}
+use Rattle.basics.proofs.Tests.{fits-mul}
+use Rattle.config.proofs.Known.{no-shape}
+use borrow.Author.Needs.{needs}
+use Rattle.config.proofs.inner.is_shape.Statement.{statement}
+use Rattle.config.proofs.inner.is_shape.Tie as tie
+
+returns : tie.Need-returns
+returns c = let s = c .before .args in sym (no-shape (s .n) (s .s) (inl (c .if1 .taken)))
+
+returns-2 : tie.Need-returns-2
+returns-2 c = let s = c .before .before .args in sym (no-shape (s .n) (s .s) (inr (c .if2 .taken)))
+
+mul-result : tie.Need-mul-result
+mul-result c = fits-mul 256 256 (c .before .if1 .left) (c .if2 .left) tt
+
+returns-3 : tie.Need-returns-3
+returns-3 c = search needs
+
+pub is-shape-spec : {M : Type 1} → statement M
+is-shape-spec = tie.close (tie.spec returns returns-2 mul-result returns-3)

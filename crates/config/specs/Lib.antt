@@ -1,0 +1,2 @@
+pub mod Configuration
+pub mod Known

@@ -1,0 +1,2 @@
+pub mod ImageWords
+pub mod Unchanged

@@ -1,0 +1,61 @@
+// Document 01's save and restore for callers in C and Rust: numbers and lent slices alone. include/micro_price.h says how they are called.
+// Words that are no configuration or no record are answered with BAD_ENCODING before all else. Every other answer is 0 or the number of a refusal.
+use encoding::BAD_ENCODING;
+use image::Restored;
+ghost use mathlib.Core.Path.{_≡_};
+ghost use Rattle.encoding.specs.Encoding.{lent};
+ghost use Rattle.exports_image.specs.Images.{lentOut, saveWords, lentBack, restoreWords};
+
+// Writes the image of a calibrator.
+#[no_mangle]
+pub extern "C" fn micro_price_save(
+    config: &[u64],
+    rec: &[u64],
+    stay: &[u64],
+    moved: &[u64],
+    move_half_ticks: &[i64],
+    out: &mut [u8],
+) -> u64
+    ensures { λ n. ⌜ lentOut n (now (out .exit)) ≡ saveWords (now (config .entry)) (now (rec .entry)) (now (stay .entry)) (now (moved .entry)) (now («move_half_ticks» .entry)) (now (out .entry)) ⌝ }
+{
+    if !encoding::is_encoded(config, rec) {
+        return BAD_ENCODING;
+    }
+    let answer = image::inner::save(
+        encoding::record_of(rec),
+        stay,
+        moved,
+        move_half_ticks,
+        encoding::config_of(config),
+        out,
+    );
+    refusals::check_number(answer)
+}
+
+// Takes an image back: fills the configuration, the record and the tables.
+#[no_mangle]
+pub extern "C" fn micro_price_restore(
+    image: &[u8],
+    config: &mut [u64],
+    rec: &mut [u64],
+    stay: &mut [u64],
+    moved: &mut [u64],
+    move_half_ticks: &mut [i64],
+) -> u64
+    ensures { λ n. ⌜ lentBack (now (config .exit)) (lent n (now (rec .exit)) (now (stay .exit)) (now (moved .exit)) (now («move_half_ticks» .exit))) ≡ restoreWords (now (image .entry)) (now (config .entry)) (now (rec .entry)) (now (stay .entry)) (now (moved .entry)) (now («move_half_ticks» .entry)) ⌝ }
+{
+    if !encoding::is_encoded(config, rec) {
+        return BAD_ENCODING;
+    }
+    let before = encoding::record_of(rec);
+    let taken = image::inner::restore(before, image, stay, moved, move_half_ticks);
+    let answer = taken.answer;
+    encoding::put_record(rec, taken.next);
+    match answer {
+        Restored::Config(c) => {
+            encoding::put_config(config, c);
+            0
+        }
+        Restored::Refused(r) => refusals::number_of(r),
+    }
+}

@@ -1,0 +1,161 @@
+// The layout of an image (document 01, "The image"): its header, written and read. Inner functions: for the crates above, not for users. Where one has a `requires`, each caller proves it.
+use calibrator::Counters;
+use calibrator::Previous;
+use calibrator::Record;
+use config::MicroPriceConfig;
+use quotes::TopOfBook;
+ghost use mathlib.Core.Path.{_≡_};
+ghost use mathlib.Core.List.{[]};
+ghost use Prim.Native.Nat.{_≤_};
+ghost use lib.ListN.{length};
+ghost use Rattle.config.specs.Known.{Valid};
+ghost use Rattle.tally.specs.Entries.{tables};
+ghost use Rattle.calibrator.specs.Record.{countsOf};
+ghost use Rattle.layout.specs.Layout.{headerLength, cells, imageLength, previousWords, header, configIn, quoteIn, previousIn, recordIn, headerIn, sameWords, laidOut};
+
+// The header's length.
+pub const HEADER: usize = 160;
+
+// The cells of a table.
+pub fn cell_count(c: MicroPriceConfig) -> usize
+    requires { ⌜ Valid c ⌝ }
+    ensures { λ r. ⌜ (r ≡ cells c) × (r ≤ 65536) ⌝ }
+{
+    let n = config::inner::state_count(c);
+    n * n
+}
+
+pub fn previous_words(previous: Previous) -> [u64; 6]
+    ensures { λ r. ⌜ r ≡ previousWords previous ⌝ }
+{
+    match previous {
+        Previous::Nothing => [0, 0, 0, 0, 0, 0],
+        Previous::Quoted(q) => [1, q.timestamp_ms, q.bid, q.ask, q.bid_size, q.ask_size],
+    }
+}
+
+pub fn header_words(c: MicroPriceConfig, rec: Record) -> [u64; 20]
+    requires { ⌜ Valid c ⌝ }
+    ensures { λ r. ⌜ r ≡ header c (rec .previous) (countsOf (rec .counters) (tables [] [] [])) ⌝ }
+{
+    let n = config::inner::state_count(c) as u64;
+    let cells = cell_count(c) as u64;
+    let previous = rec.previous;
+    let q = previous_words(previous);
+    let k = rec.counters;
+    [
+        n,
+        c.imbalance_buckets,
+        c.spread_states,
+        c.tick_size,
+        c.min_state_observations,
+        c.max_quote_gap_ms,
+        160,
+        160 + 8 * cells,
+        160 + 16 * cells,
+        q[0],
+        q[1],
+        q[2],
+        q[3],
+        q[4],
+        q[5],
+        k.pairs,
+        k.skipped_spread_pairs,
+        k.skipped_gap_pairs,
+        k.largest_move_half_ticks,
+        160 + 16 * cells + 8 * n,
+    ]
+}
+
+pub fn image_length(c: MicroPriceConfig) -> usize
+    requires { ⌜ Valid c ⌝ }
+    ensures { λ r. ⌜ r ≡ imageLength c ⌝ }
+{
+    HEADER + 16 * cell_count(c) + 8 * config::inner::state_count(c)
+}
+
+pub fn config_in(b: &[u8]) -> MicroPriceConfig
+    requires { ⌜ headerLength ≤ length (now b) ⌝ }
+    ensures { λ r. ⌜ r ≡ configIn (now (b .entry)) ⌝ }
+{
+    let n = words::get_word(b, 8);
+    let s = words::get_word(b, 16);
+    let tick = words::get_word(b, 24);
+    let least = words::get_word(b, 32);
+    let gap = words::get_word(b, 40);
+    MicroPriceConfig::new(tick, n, s)
+        .with_min_state_observations(least)
+        .with_max_quote_gap_ms(gap)
+}
+
+fn quote_in(b: &[u8]) -> TopOfBook
+    requires { ⌜ headerLength ≤ length (now b) ⌝ }
+    ensures { λ r. ⌜ r ≡ quoteIn (now (b .entry)) ⌝ }
+{
+    let timestamp_ms = words::get_word(b, 80);
+    let bid = words::get_word(b, 88);
+    let ask = words::get_word(b, 96);
+    let bid_size = words::get_word(b, 104);
+    let ask_size = words::get_word(b, 112);
+    TopOfBook {
+        timestamp_ms,
+        bid,
+        ask,
+        bid_size,
+        ask_size,
+    }
+}
+
+fn previous_in(b: &[u8]) -> Previous
+    requires { ⌜ headerLength ≤ length (now b) ⌝ }
+    ensures { λ r. ⌜ r ≡ previousIn (now (b .entry)) ⌝ }
+{
+    let flag = words::get_word(b, 72);
+    if flag == 1 {
+        return Previous::Quoted(quote_in(b));
+    }
+    Previous::Nothing
+}
+
+pub fn record_in(b: &[u8]) -> Record
+    requires { ⌜ headerLength ≤ length (now b) ⌝ }
+    ensures { λ r. ⌜ r ≡ recordIn (now (b .entry)) ⌝ }
+{
+    let previous = previous_in(b);
+    let pairs = words::get_word(b, 120);
+    let skipped_spread_pairs = words::get_word(b, 128);
+    let skipped_gap_pairs = words::get_word(b, 136);
+    let largest_move_half_ticks = words::get_word(b, 144);
+    Record {
+        previous,
+        counters: Counters {
+            pairs,
+            skipped_spread_pairs,
+            skipped_gap_pairs,
+            largest_move_half_ticks,
+        },
+    }
+}
+
+fn same_words(b: &[u8], h: &[u64]) -> bool
+    requires { ⌜ (headerLength ≤ length (now b)) × (length (now h) ≡ 20) ⌝ }
+    ensures { λ r. ⌜ r ≡ sameWords (headerIn (now (b .entry))) (now (h .entry)) ⌝ }
+{
+    let mut i: usize = 0;
+    while i < 20 {
+        if words::get_word(b, 8 * i) != h[i] {
+            return false;
+        }
+        i += 1;
+    }
+    true
+}
+
+pub fn is_laid_out(b: &[u8], c: MicroPriceConfig, rec: Record) -> bool
+    requires { ⌜ Valid c × (headerLength ≤ length (now b)) × (c ≡ configIn (now b)) × (rec ≡ recordIn (now b)) ⌝ }
+    ensures { λ r. ⌜ r ≡ laidOut (now (b .entry)) ⌝ }
+{
+    let h = header_words(c, rec);
+    let same = same_words(b, &h);
+    same & (b.len() == image_length(c))
+}
