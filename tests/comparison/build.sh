@@ -143,12 +143,14 @@ pub fn take_recorded() -> Vec<f64> {
 '
 crate recorded "$build/recorded.rs"
 
-rm -rf "$build/driver"
+rm -rf "$build/driver" "$build/micro_price"
 cp -pR "$here/driver" "$build/driver"
+cp -pR "$root/bindings/rust" "$build/micro_price"
 put "$build/Cargo.toml" <<'TOML'
 [workspace]
 resolver = "3"
 members = ["market_maker_rs", "recorded", "driver"]
+exclude = ["micro_price"]
 TOML
 put "$build/.cargo/config.toml" <<TOML
 [source.crates-io]

@@ -2,156 +2,10 @@
 
 use crate::faults::hits;
 use crate::paper::{Memory, Quote};
+use micro_price::sys;
 
 /// The answer to words or lengths that are no configuration or record.
 pub const BAD_ENCODING: u64 = 100;
-
-mod abi {
-    unsafe extern "C" {
-        pub fn micro_price_validate(config: *const u64, config_len: usize) -> u64;
-        pub fn micro_price_new(
-            config: *const u64,
-            config_len: usize,
-            rec: *mut u64,
-            rec_len: usize,
-            stay: *mut u64,
-            stay_len: usize,
-            moved: *mut u64,
-            moved_len: usize,
-            totals: *mut i64,
-            totals_len: usize,
-        ) -> u64;
-        pub fn micro_price_observe(
-            config: *const u64,
-            config_len: usize,
-            rec: *mut u64,
-            rec_len: usize,
-            stay: *mut u64,
-            stay_len: usize,
-            moved: *mut u64,
-            moved_len: usize,
-            totals: *mut i64,
-            totals_len: usize,
-            time: u64,
-            bid: u64,
-            ask: u64,
-            bid_size: u64,
-            ask_size: u64,
-        ) -> u64;
-        pub fn micro_price_save(
-            config: *const u64,
-            config_len: usize,
-            rec: *const u64,
-            rec_len: usize,
-            stay: *const u64,
-            stay_len: usize,
-            moved: *const u64,
-            moved_len: usize,
-            totals: *const i64,
-            totals_len: usize,
-            out: *mut u8,
-            out_len: usize,
-        ) -> u64;
-        pub fn micro_price_restore(
-            image: *const u8,
-            image_len: usize,
-            config: *mut u64,
-            config_len: usize,
-            rec: *mut u64,
-            rec_len: usize,
-            stay: *mut u64,
-            stay_len: usize,
-            moved: *mut u64,
-            moved_len: usize,
-            totals: *mut i64,
-            totals_len: usize,
-        ) -> u64;
-        pub fn micro_price_fit_counts(
-            config: *const u64,
-            config_len: usize,
-            rec: *const u64,
-            rec_len: usize,
-            stay: *const u64,
-            stay_len: usize,
-            moved: *const u64,
-            moved_len: usize,
-            totals: *const i64,
-            totals_len: usize,
-            scratch: *mut f64,
-            scratch_len: usize,
-            model: *mut u64,
-            model_len: usize,
-        ) -> u64;
-        pub fn micro_price_check_model(
-            config: *const u64,
-            config_len: usize,
-            model: *const u64,
-            model_len: usize,
-            row: *mut u64,
-        ) -> u64;
-        pub fn micro_price_signal(
-            config: *const u64,
-            config_len: usize,
-            model: *const u64,
-            model_len: usize,
-            time: u64,
-            bid: u64,
-            ask: u64,
-            bid_size: u64,
-            ask_size: u64,
-            out: *mut u64,
-            out_len: usize,
-            row: *mut u64,
-        ) -> u64;
-        pub fn micro_price_window_of(
-            recording: *const u64,
-            recording_len: usize,
-            start: u64,
-            end: u64,
-            first: *mut u64,
-            past: *mut u64,
-        ) -> u64;
-        pub fn micro_price_calibrate(
-            config: *const u64,
-            config_len: usize,
-            rec: *mut u64,
-            rec_len: usize,
-            stay: *mut u64,
-            stay_len: usize,
-            moved: *mut u64,
-            moved_len: usize,
-            totals: *mut i64,
-            totals_len: usize,
-            recording: *const u64,
-            recording_len: usize,
-            start: u64,
-            end: u64,
-            scratch: *mut f64,
-            scratch_len: usize,
-            model: *mut u64,
-            model_len: usize,
-            invalid: *mut u64,
-        ) -> u64;
-        pub fn micro_price_replay(
-            config: *const u64,
-            config_len: usize,
-            rec: *mut u64,
-            rec_len: usize,
-            stay: *mut u64,
-            stay_len: usize,
-            moved: *mut u64,
-            moved_len: usize,
-            totals: *mut i64,
-            totals_len: usize,
-            calls: *const u64,
-            calls_len: usize,
-            room: *mut u8,
-            room_len: usize,
-            answers: *mut u64,
-            answers_len: usize,
-        ) -> u64;
-    }
-}
 
 /// The memory that a calibrator is lent, of any lengths and content.
 #[derive(Debug, Clone, PartialEq, Eq)]
@@ -177,7 +31,7 @@ impl Lent {
     pub fn start_new(&mut self) -> u64 {
         // SAFETY: each pointer and length is that of a slice, and each slice that is written is borrowed for the call alone.
         unsafe {
-            abi::micro_price_new(
+            sys::micro_price_new(
                 self.config.as_ptr(),
                 self.config.len(),
                 self.rec.as_mut_ptr(),
@@ -205,7 +59,7 @@ impl Lent {
     fn observe_given(&mut self, quote: &Quote) -> u64 {
         // SAFETY: as in `start_new`.
         unsafe {
-            abi::micro_price_observe(
+            sys::micro_price_observe(
                 self.config.as_ptr(),
                 self.config.len(),
                 self.rec.as_mut_ptr(),
@@ -262,7 +116,7 @@ impl Lent {
     pub fn save(&self, out: &mut [u8]) -> u64 {
         // SAFETY: as in `start_new`.
         let answer = unsafe {
-            abi::micro_price_save(
+            sys::micro_price_save(
                 self.config.as_ptr(),
                 self.config.len(),
                 self.rec.as_ptr(),
@@ -289,7 +143,7 @@ impl Lent {
     pub fn restore(&mut self, image: &[u8]) -> u64 {
         // SAFETY: as in `start_new`.
         let answer = unsafe {
-            abi::micro_price_restore(
+            sys::micro_price_restore(
                 image.as_ptr(),
                 image.len(),
                 self.config.as_mut_ptr(),
@@ -318,7 +172,7 @@ impl Lent {
     pub fn fit(&self, scratch: &mut [f64], model: &mut [u64]) -> u64 {
         // SAFETY: as in `start_new`.
         let answer = unsafe {
-            abi::micro_price_fit_counts(
+            sys::micro_price_fit_counts(
                 self.config.as_ptr(),
                 self.config.len(),
                 self.rec.as_ptr(),
@@ -348,7 +202,7 @@ impl Lent {
     ) -> u64 {
         // SAFETY: as in `start_new`.
         let answer = unsafe {
-            abi::micro_price_calibrate(
+            sys::micro_price_calibrate(
                 self.config.as_ptr(),
                 self.config.len(),
                 self.rec.as_mut_ptr(),
@@ -388,7 +242,7 @@ impl Lent {
     pub fn replay(&mut self, calls: &[u64], room: &mut [u8], answers: &mut [u64]) -> u64 {
         // SAFETY: as in `start_new`.
         let answer = unsafe {
-            abi::micro_price_replay(
+            sys::micro_price_replay(
                 self.config.as_ptr(),
                 self.config.len(),
                 self.rec.as_mut_ptr(),
@@ -460,13 +314,13 @@ fn fit_faults(stay: &[u64], scratch: &mut [f64], model: &mut [u64], answer: u64)
 
 pub fn validate(config: &[u64]) -> u64 {
     // SAFETY: as in `Lent::start_new`.
-    unsafe { abi::micro_price_validate(config.as_ptr(), config.len()) }
+    unsafe { sys::micro_price_validate(config.as_ptr(), config.len()) }
 }
 
 pub fn check_model(config: &[u64], model: &[u64], row: &mut u64) -> u64 {
     // SAFETY: as in `Lent::start_new`.
     let answer = unsafe {
-        abi::micro_price_check_model(
+        sys::micro_price_check_model(
             config.as_ptr(),
             config.len(),
             model.as_ptr(),
@@ -486,7 +340,7 @@ pub fn check_model(config: &[u64], model: &[u64], row: &mut u64) -> u64 {
 pub fn signal(config: &[u64], model: &[u64], quote: &Quote, out: &mut [u64], row: &mut u64) -> u64 {
     // SAFETY: as in `Lent::start_new`.
     let answer = unsafe {
-        abi::micro_price_signal(
+        sys::micro_price_signal(
             config.as_ptr(),
             config.len(),
             model.as_ptr(),
@@ -513,7 +367,7 @@ pub fn signal(config: &[u64], model: &[u64], quote: &Quote, out: &mut [u64], row
 pub fn window_of(recording: &[u64], start: u64, end: u64, first: &mut u64, past: &mut u64) -> u64 {
     // SAFETY: as in `Lent::start_new`.
     let answer = unsafe {
-        abi::micro_price_window_of(recording.as_ptr(), recording.len(), start, end, first, past)
+        sys::micro_price_window_of(recording.as_ptr(), recording.len(), start, end, first, past)
     };
     if answer == 0 && hits("window_past", recording) {
         *past += 1;
