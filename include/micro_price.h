@@ -52,6 +52,7 @@ extern "C" {
 #define MICRO_PRICE_NOT_CONVERGED 18
 #define MICRO_PRICE_UNREPRESENTABLE 19
 #define MICRO_PRICE_BAD_ENCODING 100
+#define MICRO_PRICE_OTHER_CONFIGURATION 101
 
 /* Whether a configuration is valid: 0 or 1. */
 uint64_t micro_price_validate(const uint64_t *config, size_t config_len);
@@ -106,9 +107,9 @@ uint64_t micro_price_calibrate(const uint64_t *config, size_t config_len, uint64
                                size_t model_len, uint64_t *invalid);
 
 /* Runs a list of calls and writes the answer of each. A call is 6 words: 0 and a quote; 1 (save) or 2 (restore), where its
- * bytes begin in room, how many they are, and three words of any content. An answer is 0 or a refusal, or 20 for a restore
- * of an image with another configuration. MICRO_PRICE_BAD_ENCODING, with nothing changed, also if calls is not a call for
- * each answer, a kind is over 2, or bytes end past the room. */
+ * bytes begin in room, how many they are, and three words of any content. An answer is 0 or a refusal, or
+ * MICRO_PRICE_OTHER_CONFIGURATION for a restore of an image with another configuration. MICRO_PRICE_BAD_ENCODING, with
+ * nothing changed, also if calls is not a call for each answer, a kind is over 2, or bytes end past the room. */
 uint64_t micro_price_replay(const uint64_t *config, size_t config_len, uint64_t *rec, size_t rec_len, uint64_t *stay,
                             size_t stay_len, uint64_t *moved, size_t moved_len, int64_t *move_half_ticks,
                             size_t move_half_ticks_len, const uint64_t *calls, size_t calls_len, uint8_t *room,

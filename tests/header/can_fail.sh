@@ -24,7 +24,7 @@ must_fail() {
 refused() {
     rm -rf "$work/tree"
     mkdir -p "$work/tree"
-    (cd "$root" && tar cf - include crates/exports*/src crates/refusals/src crates/encoding/src bindings/rust/src) |
+    (cd "$root" && tar cf - include crates/exports*/src crates/refusals/src crates/encoding/src crates/replay/src bindings/rust/src) |
         (cd "$work/tree" && tar xf -)
     "$root/tests/comparison/replace_once.pl" "$work/tree/$2" "$3" "$4"
     must_fail "$1" "$work/tree"

@@ -3,7 +3,7 @@
 
 Holds the functions that TREE/include/micro_price.h declares against the symbols that ARCHIVE exports, and their parameters
 against crates/exports*, where they are written, and against bindings/rust/src/sys.rs, where Rust declares them. Holds the
-header's numbers against crates/refusals and crates/encoding. Prints each mismatch and ends with status 1 if there is one.
+header's numbers against crates/refusals, crates/encoding and crates/replay. Prints each mismatch and ends with status 1 if there is one.
 """
 import re
 import subprocess
@@ -81,6 +81,8 @@ def numbers(tree):
     found = {re.sub(r"(?<!^)([A-Z])", r"_\1", name).upper(): int(number) for name, number in matches}
     bad = re.search(r"const BAD_ENCODING: u64 = (\d+);", (tree / "crates/encoding/src/lib.rt").read_text())
     found["BAD_ENCODING"] = int(bad[1])
+    other = re.search(r"const OTHER_CONFIGURATION: u64 = (\d+);", (tree / "crates/replay/src/inner.rt").read_text())
+    found["OTHER_CONFIGURATION"] = int(other[1])
     return found
 
 

@@ -287,7 +287,7 @@ fn call_words(call: &Call) -> [u64; 6] {
 
 fn replayed(answer: u64) -> Replayed {
     match answer {
-        20 => Replayed::OtherConfiguration,
+        sys::OTHER_CONFIGURATION => Replayed::OtherConfiguration,
         _ => Refusal::of(answer, 0).map_or(Replayed::Done, Replayed::Refused),
     }
 }

@@ -1,5 +1,8 @@
 //! The functions of `include/micro_price.h` as they are; the header says what each takes and answers.
 
+/// What `micro_price_replay` answers for the restore of an image with another configuration.
+pub const OTHER_CONFIGURATION: u64 = 101;
+
 unsafe extern "C" {
     pub fn micro_price_validate(config: *const u64, config_len: usize) -> u64;
 

@@ -13,8 +13,10 @@ ghost use Rattle.tally.specs.Entries.{tables};
 ghost use Rattle.calibrator.specs.Record.{countsOf};
 ghost use Rattle.layout.specs.Layout.{headerLength, cells, imageLength, previousWords, header, configIn, quoteIn, previousIn, recordIn, headerIn, sameWords, laidOut};
 
-// The header's length.
-pub const HEADER: usize = 160;
+// The header's length, as a word of it and as a place in bytes.
+const LENGTH: u64 = 160;
+
+pub const HEADER: usize = LENGTH as usize;
 
 // The cells of a table.
 pub fn cell_count(c: MicroPriceConfig) -> usize
@@ -50,9 +52,9 @@ pub fn header_words(c: MicroPriceConfig, rec: Record) -> [u64; 20]
         c.tick_size,
         c.min_state_observations,
         c.max_quote_gap_ms,
-        160,
-        160 + 8 * cells,
-        160 + 16 * cells,
+        LENGTH,
+        LENGTH + 8 * cells,
+        LENGTH + 16 * cells,
         q[0],
         q[1],
         q[2],
@@ -63,7 +65,7 @@ pub fn header_words(c: MicroPriceConfig, rec: Record) -> [u64; 20]
         k.skipped_spread_pairs,
         k.skipped_gap_pairs,
         k.largest_move_half_ticks,
-        160 + 16 * cells + 8 * n,
+        LENGTH + 16 * cells + 8 * n,
     ]
 }
 

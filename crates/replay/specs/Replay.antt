@@ -86,11 +86,15 @@ sameConfig c d =
     && eqb (c .«min_state_observations») (d .«min_state_observations»)
     && eqb (c .«max_quote_gap_ms») (d .«max_quote_gap_ms»)
 
--- 0 if nothing is refused, else the refusal's number; 20 if a restore answers another configuration
+-- a restore that answers another configuration: none of 01's numbers
+abbrev pub otherConfiguration : ℕ
+otherConfiguration = 101
+
+-- 0 if nothing is refused, else the refusal's number
 abbrev pub answerNumber : MicroPriceConfig → Answer → ℕ
 answerNumber c (observes a) = checkNumber a
 answerNumber c (saves s) = checkNumber (s .answer)
-answerNumber c (restores (Restored.Config d)) = cond (sameConfig c d) 0 20
+answerNumber c (restores (Restored.Config d)) = cond (sameConfig c d) 0 otherConfiguration
 answerNumber c (restores (Restored.Refused r)) = numberOf r
 
 -- call k

@@ -23,6 +23,9 @@ pub struct CallDone {
 
 // ---- answers as numbers
 
+// What a replay's restore of another configuration is answered with.
+pub const OTHER_CONFIGURATION: u64 = 101;
+
 fn same_config(c: MicroPriceConfig, d: MicroPriceConfig) -> bool
     ensures { λ r. ⌜ r ≡ sameConfig c d ⌝ }
 {
@@ -38,7 +41,13 @@ fn restored_number(c: MicroPriceConfig, a: Restored) -> u64
     ensures { λ n. ⌜ n ≡ answerNumber c (restores a) ⌝ }
 {
     match a {
-        Restored::Config(d) => { if same_config(c, d) { 0 } else { 20 } }
+        Restored::Config(d) => {
+            if same_config(c, d) {
+                0
+            } else {
+                OTHER_CONFIGURATION
+            }
+        }
         Restored::Refused(r) => refusals::number_of(r),
     }
 }

@@ -7,6 +7,9 @@ use micro_price::sys;
 /// The answer to words or lengths that are no configuration or record.
 pub const BAD_ENCODING: u64 = 100;
 
+/// What a replay answers to the restore of an image with another configuration.
+pub const OTHER_CONFIGURATION: u64 = 101;
+
 /// The memory that a calibrator is lent, of any lengths and content.
 #[derive(Debug, Clone, PartialEq, Eq)]
 pub struct Lent {

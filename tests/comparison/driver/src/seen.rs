@@ -67,7 +67,7 @@ pub enum Rule {
     FallbackNotZero,
     /// A signal of a row of which the Rust's model would be refused, judged by 01.
     SignalOfUncheckedModel,
-    /// A replayed restore of an image with another configuration: 20.
+    /// A replayed restore of an image with another configuration: 101.
     OtherConfiguration,
 }
 
@@ -94,7 +94,7 @@ pub const RULES: [(Rule, &str); 14] = [
     ),
     (
         Rule::OtherConfiguration,
-        "replayed restore of another configuration: 20",
+        "replayed restore of another configuration: 101",
     ),
 ];
 

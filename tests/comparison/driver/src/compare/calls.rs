@@ -6,7 +6,7 @@ use crate::compare::{Case, Compared, Difference, Run, fits, images, smallest};
 use crate::inputs::quotes::{self as inputs, LARGE, MIDDLE, SMALL};
 use crate::paper::{Config, Memory, Quote, join};
 use crate::plain;
-use crate::port::Lent;
+use crate::port::{self, Lent};
 use crate::random::Random;
 use crate::seen::{Operation, Rule, Seen};
 
@@ -220,7 +220,7 @@ fn restore(seen: &mut Seen, sides: &mut Sides, image: &[u8]) -> Result<u64, Diff
     *sides = Sides::of(&Memory { config, ..memory });
     if other {
         seen.rule(Rule::OtherConfiguration);
-        return Ok(20);
+        return Ok(port::OTHER_CONFIGURATION);
     }
     Ok(0)
 }
