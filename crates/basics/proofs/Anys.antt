@@ -39,7 +39,8 @@ module _ {A : Type 0} (p : A → Bool) where
     none-at (x ∷ xs) e (suc i) h = none-at xs (neither (p x) (any p xs) e .1) i (le-of-suc-le-suc h)
 
     -- after two stores into a list with none, only those two places can have one
-    pub any-two : (l : List A) → any p l ≡ false → (j k : ℕ) (a b : A) → j < length l → k < length l → any p (set (set l j a) k b) ≡ (p (getD (set (set l j a) k b) j d) || p (getD (set (set l j a) k b) k d))
+    pub any-two : (l : List A) → any p l ≡ false → (j k : ℕ) (a b : A) → j < length l → k < length l
+        → any p (set (set l j a) k b) ≡ (p (getD (set (set l j a) k b) j d) || p (getD (set (set l j a) k b) k d))
     any-two l e j k a b hj hk = go (p (getD m j d)) refl (p (getD m k d)) refl
       where
         m : List A

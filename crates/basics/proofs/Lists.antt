@@ -107,8 +107,11 @@ sum-tab-one zero f k h o = absurd (not-suc-le-zero h)
 sum-tab-one (suc n) f zero h o =
     omega (arith, sum-tab-zero n (λ m. f (suc m)) (λ m b. o (suc m) (suc-le-suc b) (suc-ne-zero m)))
 sum-tab-one (suc n) f (suc k) h o =
-    omega
-    (arith, o zero (zero-lt-suc n) (λ p. suc-ne-zero k (sym p)), sum-tab-one n (λ m. f (suc m)) k (le-of-suc-le-suc h) (λ m b q. o (suc m) (suc-le-suc b) (λ p. q (suc-inj p))))
+    omega (
+      arith,
+      o zero (zero-lt-suc n) (λ p. suc-ne-zero k (sym p)),
+      sum-tab-one n (λ m. f (suc m)) k (le-of-suc-le-suc h) (λ m b q. o (suc m) (suc-le-suc b) (λ p. q (suc-inj p))),
+    )
 
 pub sum-replicate : (n : ℕ) → sum (replicate n 0) ≡ 0
 sum-replicate zero = refl

@@ -61,7 +61,8 @@ module _ {A : Type 0} (d : A) where
 -- ---- a list filled from the front
 
 -- by a function of the place: what stands below i, and one more
-pub filled-by : {A : Type 0} (f : ℕ → A) (l : List A) (i : ℕ) (v d : A) → i < length l → v ≡ f i → ((k : ℕ) → k < i → getD l k d ≡ f k) → (k : ℕ) → k < i + 1 → getD (set l i v) k d ≡ f k
+pub filled-by : {A : Type 0} (f : ℕ → A) (l : List A) (i : ℕ) (v d : A) → i < length l → v ≡ f i → ((k : ℕ) → k < i → getD l k d ≡ f k) → (k : ℕ) → k < i + 1
+    → getD (set l i v) k d ≡ f k
 filled-by f l i v d h e below =
     below-more (λ k. getD (set l i v) k d ≡ f k) i (λ k b. getD-set-other l i k v d (λ q. omega arith) ∙ below k b)
     (getD-set-same l i v d h ∙ e)
@@ -81,7 +82,14 @@ pub record Stored {A : Type 0} (d : A) (f : ℕ → A) (x : ℕ) (before after :
 pub stored-none : {A : Type 0} (d : A) (f : ℕ → A) (l : List A) → Stored d f 0 l l
 stored-none d f l = record { same-length = refl; done = λ i h. absurd (omega arith); rest = λ i h. refl }
 
-pub stored-more : {A : Type 0} (d : A) (f : ℕ → A) (x : ℕ) (v : A) (before l : List A) → Stored d f x before l → x < length l → v ≡ f x → Stored d f (x + 1) before (set l x v)
+-- one value at every place
+pub stored-all : {A : Type 0} (d v : A) (x : ℕ) (before after : List A) → Stored d (λ i. v) x before after → length before ≤ x → after ≡ replicate (length before) v
+stored-all d v x before after s h =
+    let e = filled after v d (λ i g. s .done i (omega (arith, s .same-length))) in
+    rw (s .same-length) at e
+
+pub stored-more : {A : Type 0} (d : A) (f : ℕ → A) (x : ℕ) (v : A) (before l : List A) → Stored d f x before l → x < length l → v ≡ f x
+    → Stored d f (x + 1) before (set l x v)
 stored-more d f x v before l s h e =
     record {
       same-length = length-set l x v ∙ s .same-length;

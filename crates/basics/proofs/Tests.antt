@@ -10,12 +10,16 @@ use borrow.Author.Tests.{leb-true, leb-false, eq-eqb}
 use mir.Syntax.{w64}
 use mir.Val.{Fits}
 
+-- two cases that differ are not equal: congruence takes such an equation to this one, `absurd (zero-not-one cc)`
+pub zero-not-one : _≡_ {A = ℕ} 0 1 → ⊥
+zero-not-one e = omega arith
+
 pub both : (a b : Bool) → (a && b) ≡ true → (a ≡ true) × (b ≡ true)
 both true b e = (refl, e)
-both false b e = absurd (let z : _≡_ {A = ℕ} 0 1 = cc in omega arith)
+both false b e = absurd (zero-not-one cc)
 
 pub neither : (a b : Bool) → (a || b) ≡ false → (a ≡ false) × (b ≡ false)
-neither true b e = absurd (let z : _≡_ {A = ℕ} 0 1 = cc in omega arith)
+neither true b e = absurd (zero-not-one cc)
 neither false b e = (refl, e)
 
 pub either : (a b : Bool) → (a || b) ≡ true → (a ≡ true) ⊎ (b ≡ true)

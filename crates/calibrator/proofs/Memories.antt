@@ -30,7 +30,8 @@ kinds-back (x ∷ []) e = absurd (omega arith)
 kinds-back (x ∷ y ∷ []) e = refl
 kinds-back (x ∷ y ∷ z ∷ l) e = absurd (omega arith)
 
-pub record-back : (c : MicroPriceConfig) (m : Memory Previous) → length (m .counts .skips) ≡ rule c .kinds → memory (recordOf m) (m .counts .tables .stay) (m .counts .tables .moved) (m .counts .tables .totals) ≡ m
+pub record-back : (c : MicroPriceConfig) (m : Memory Previous) → length (m .counts .skips) ≡ rule c .kinds
+    → memory (recordOf m) (m .counts .tables .stay) (m .counts .tables .moved) (m .counts .tables .totals) ≡ m
 record-back c m e =
     ap
     (λ (l : List ℕ).

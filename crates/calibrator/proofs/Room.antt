@@ -29,7 +29,8 @@ lengths-known n stay moved totals e =
       totals-cells = eqb-true totals n (not-false _ (a .1));
     }
 
-pub room-known : (c : MicroPriceConfig) (stay moved totals : ℕ) → checkRoom c stay moved totals ≡ Fine → Valid c × (wrongLengths (states c) stay moved totals ≡ false)
+pub room-known : (c : MicroPriceConfig) (stay moved totals : ℕ) → checkRoom c stay moved totals ≡ Fine
+    → Valid c × (wrongLengths (states c) stay moved totals ≡ false)
 room-known c stay moved totals e =
     let f = first-fine (checkConfig c) (refuseIf (wrongLengths (states c) stay moved totals) 7) e in
     (valid-known c (not-false (valid c) (if-fine (not (valid c)) 1 (f .0))), if-fine (wrongLengths (states c) stay moved totals) 7 (f .1))

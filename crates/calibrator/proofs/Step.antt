@@ -1,9 +1,10 @@
 -- Document 01's rule is lawful, and one quote on the memory of a history is the step of that history.
-use Prim.Native.Nat.{ℕ, _≤_, _<_}
+use Prim.Native.Nat.{_≤_, _<_}
 use mathlib.Core.Path.{_≡_, refl, _∙_}
 use mathlib.Core.Bool.{false, not}
 use mathlib.Core.List.{List, [], _∷_, _++_}
 use native.Mathlib.Omega.{arith}
+use Rattle.basics.proofs.Tests.{zero-not-one}
 use Rattle.refusals.specs.declared.Check.{Check}
 use Rattle.refusals.specs.declared.Check.the-variants.{Fine, Refused}
 use Rattle.refusals.specs.declared.Refusal.{Refusal}
@@ -63,18 +64,22 @@ module _ (c : MicroPriceConfig) (v : Valid c) where
 
 accepted-left : (k : Check) (m n : Memory Previous) → answered k m n .answer ≡ Fine → answered k m n .left ≡ n
 accepted-left Fine m n e = refl
-accepted-left (Refused r) m n e = absurd (let z : _≡_ {A = ℕ} 0 1 = cc in omega arith)
+accepted-left (Refused r) m n e = absurd (zero-not-one cc)
 
 refused-left : (k : Check) (m n : Memory Previous) (r : Refusal) → answered k m n .answer ≡ Refused r → answered k m n .left ≡ m
-refused-left Fine m n r e = absurd (let z : _≡_ {A = ℕ} 0 1 = cc in omega arith)
+refused-left Fine m n r e = absurd (zero-not-one cc)
 refused-left (Refused x) m n r e = refl
 
 -- the step law for document 01's rule: an accepted quote on the memory of a history leaves the memory of the history with that quote
-pub observed-step : (c : MicroPriceConfig) → Valid c → (start : Counts) (qs : List TopOfBook) (q : TopOfBook) → observed c (memoryOf (rule c) Nothing start qs) q .answer ≡ Fine → observed c (memoryOf (rule c) Nothing start qs) q .left ≡ memoryOf (rule c) Nothing start (qs ++ q ∷ [])
+pub observed-step : (c : MicroPriceConfig) → Valid c → (start : Counts) (qs : List TopOfBook) (q : TopOfBook)
+    → observed c (memoryOf (rule c) Nothing start qs) q .answer ≡ Fine
+    → observed c (memoryOf (rule c) Nothing start qs) q .left ≡ memoryOf (rule c) Nothing start (qs ++ q ∷ [])
 observed-step c v start qs q e =
-    accepted-left (refusalBy (rule c) (judge c) (memoryOf (rule c) Nothing start qs) q) (memoryOf (rule c) Nothing start qs) (step (rule c) (memoryOf (rule c) Nothing start qs) q) e
+    accepted-left (refusalBy (rule c) (judge c) (memoryOf (rule c) Nothing start qs) q) (memoryOf (rule c) Nothing start qs)
+    (step (rule c) (memoryOf (rule c) Nothing start qs) q) e
     ∙ step-memory (rule c) (rule-lawful c v) Nothing start qs q
 
 -- a refused quote leaves any memory as it was
-pub observed-refused : (c : MicroPriceConfig) (m : Memory Previous) (q : TopOfBook) (r : Refusal) → observed c m q .answer ≡ Refused r → observed c m q .left ≡ m
+pub observed-refused : (c : MicroPriceConfig) (m : Memory Previous) (q : TopOfBook) (r : Refusal) → observed c m q .answer ≡ Refused r
+    → observed c m q .left ≡ m
 observed-refused c m q r e = refused-left (refusalBy (rule c) (judge c) m q) m (step (rule c) m q) r e

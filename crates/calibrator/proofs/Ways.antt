@@ -7,6 +7,7 @@ use native.Mathlib.Omega.{arith}
 use lib.IntN.{ℤ, pos}
 use lib.ListN.{length, replicate}
 use borrow.Author.Tests.{ltb-false, not-false, not-true}
+use Rattle.basics.proofs.Tests.{zero-not-one}
 use Rattle.refusals.specs.Refusals.{refuseIf, firstOf, refusal}
 use Rattle.refusals.specs.declared.Check.{Check}
 use Rattle.refusals.specs.declared.Check.the-variants.{Fine, Refused}
@@ -28,7 +29,7 @@ use Rattle.quotes.proofs.Pairs.{counted-made}
 use Rattle.quotes.proofs.States.{place-located}
 use Rattle.quotes.proofs.Ticks.{half-ticks-most}
 use Rattle.tally.specs.Entries.{Tables, tables, enterBoth, forthOf, backOf, touchedOver}
-use Rattle.tally.specs.Events.{first, skip, pair, entered}
+use Rattle.tally.specs.Events.{skip}
 use Rattle.tally.specs.Fits.{Placed}
 use Rattle.tally.specs.Limits.{overCounter}
 use Rattle.tally.specs.Rules.{Memory}
@@ -44,7 +45,7 @@ use Rattle.calibrator.proofs.Room.{room-known, lengths-known}
 
 not-refused : (k : Check) → refuses k ≡ false → k ≡ Fine
 not-refused Fine e = refl
-not-refused (Refused r) e = absurd (let z : _≡_ {A = ℕ} 0 1 = cc in omega arith)
+not-refused (Refused r) e = absurd (zero-not-one cc)
 
 -- what a judged quote after another is known to be
 pub pair-known : (c : MicroPriceConfig) (p q : TopOfBook) → judgePair c p q ≡ Fine → Accepted c p × Accepted c q × (p .«timestamp_ms» ≤ q .«timestamp_ms»)
@@ -54,7 +55,8 @@ pair-known c p q e =
     (fine-known c p (not-refused (checkQuote c p) (if-fine _ 8 (a .0))), fine-known c q (b .0), ltb-false _ _ (if-fine _ 5 (b .1)))
 
 -- a pair that two accepted quotes make
-pub counted-known : (c : MicroPriceConfig) (p q : TopOfBook) → Valid c → Accepted c p → Accepted c q → (e : Pair) → neighboursOf c p q ≡ Counted e → Countable c e
+pub counted-known : (c : MicroPriceConfig) (p q : TopOfBook) → Valid c → Accepted c p → Accepted c q → (e : Pair) → neighboursOf c p q ≡ Counted e
+    → Countable c e
 counted-known c p q v f g e h =
     let k = counted-made c p q e h in
     record {
@@ -65,7 +67,8 @@ counted-known c p q v f g e h =
     }
 
 -- such a pair in tables of the right lengths
-pub pair-placed : (c : MicroPriceConfig) (e : Pair) (a b t : ℕ) → Valid c → Countable c e → wrongLengths (states c) a b t ≡ false → Placed (states c) (entryOf e) a b t
+pub pair-placed : (c : MicroPriceConfig) (e : Pair) (a b t : ℕ) → Valid c → Countable c e → wrongLengths (states c) a b t ≡ false
+    → Placed (states c) (entryOf e) a b t
 pair-placed c e a b t v k w =
     let z = lengths-known (states c) a b t w in
     record {
@@ -94,7 +97,9 @@ module _ (c : MicroPriceConfig) (r : Record) (s m : List ℕ) (t : List ℤ) whe
   pub new-refused : (x : Refusal) → roomFor c (memory r s m t) ≡ Refused x → ended (Refused x) r s m t ≡ made c (memory r s m t)
   new-refused x e = rw e
 
-  pub new-made : roomFor c (memory r s m t) ≡ Fine → (s′ m′ : List ℕ) (t′ : List ℤ) → s′ ≡ replicate (length s) 0 → m′ ≡ replicate (length m) 0 → t′ ≡ replicate (length t) (pos 0) → (k : Counters) → k ≡ noCounters → ended Fine (record { previous = Nothing; counters = k }) s′ m′ t′ ≡ made c (memory r s m t)
+  pub new-made : roomFor c (memory r s m t) ≡ Fine → (s′ m′ : List ℕ) (t′ : List ℤ) → s′ ≡ replicate (length s) 0 → m′ ≡ replicate (length m) 0
+      → t′ ≡ replicate (length t) (pos 0) → (k : Counters) → k ≡ noCounters
+      → ended Fine (record { previous = Nothing; counters = k }) s′ m′ t′ ≡ made c (memory r s m t)
   new-made e s′ m′ t′ u v w k f =
       let z = lengths-known (states c) (length s) (length m) (length t) (room-known c (length s) (length m) (length t) e .1) in
       rw (e, f, u, v, w, z .stay-cells, z .moved-cells, z .totals-cells)
@@ -113,7 +118,8 @@ module _ (c : MicroPriceConfig) (l : Previous) (k : Counters) (s m : List ℕ) (
   way-no-room x e = rw e
 
   -- a first quote
-  pub way-first : roomFor c before ≡ Fine → l ≡ Nothing → (d : Done) → d ≡ pickDone (checkQuote c q) held (accepted k q) → ended (d .answer) (d .next) s m t ≡ observed c before q
+  pub way-first : roomFor c before ≡ Fine → l ≡ Nothing → (d : Done) → d ≡ pickDone (checkQuote c q) held (accepted k q)
+      → ended (d .answer) (d .next) s m t ≡ observed c before q
   way-first e f d g = rw g (go (checkQuote c q) refl)
     where
       go : (x : Check) → checkQuote c q ≡ x → ended (pickDone x held (accepted k q) .answer) (pickDone x held (accepted k q) .next) s m t ≡ observed c before q
@@ -121,15 +127,18 @@ module _ (c : MicroPriceConfig) (l : Previous) (k : Counters) (s m : List ℕ) (
       go (Refused x) h = rw (e, f, h)
 
   -- 8, 2, 3, 4 or 5 after another quote
-  pub way-judged : roomFor c before ≡ Fine → (p : TopOfBook) → l ≡ Quoted p → (x : Refusal) → judgePair c p q ≡ Refused x → ended (Refused x) held s m t ≡ observed c before q
+  pub way-judged : roomFor c before ≡ Fine → (p : TopOfBook) → l ≡ Quoted p → (x : Refusal) → judgePair c p q ≡ Refused x
+      → ended (Refused x) held s m t ≡ observed c before q
   way-judged e p f x h = rw (e, f, h)
 
   -- counted, or 6
-  pub way-next : roomFor c before ≡ Fine → (p : TopOfBook) → l ≡ Quoted p → judgePair c p q ≡ Fine → countedAs c before q (eventFrom (neighboursOf c p q)) ≡ observed c before q
+  pub way-next : roomFor c before ≡ Fine → (p : TopOfBook) → l ≡ Quoted p → judgePair c p q ≡ Fine
+      → countedAs c before q (eventFrom (neighboursOf c p q)) ≡ observed c before q
   way-next e p f h = rw (e, f, h)
 
   -- a skip, its counter within its limit or not
-  pub way-skipped : (x : Skip) → overCounter (skipCount k x + 1) ≡ false → ended Fine (record { previous = Quoted q; counters = addSkip k x }) s m t ≡ countedAs c before q (skip (kindOf x))
+  pub way-skipped : (x : Skip) → overCounter (skipCount k x + 1) ≡ false
+      → ended Fine (record { previous = Quoted q; counters = addSkip k x }) s m t ≡ countedAs c before q (skip (kindOf x))
   way-skipped Gap e = rw e
   way-skipped Spread e = rw e
 
@@ -145,14 +154,17 @@ module _ (c : MicroPriceConfig) (l : Previous) (k : Counters) (s m : List ℕ) (
     abbrev after : Tables
     after = enterBoth (states c) (forthOf e) (backOf e) (tables s m t)
 
-    limit-is : (overCounter (k .pairs + 1) || touchedOver (states c) (forthOf e) (backOf e) after) ≡ true → ended (Refused (refusal 6)) held s m t ≡ countedAs c before q (eventFrom (Counted p))
+    limit-is : (overCounter (k .pairs + 1) || touchedOver (states c) (forthOf e) (backOf e) after) ≡ true
+        → ended (Refused (refusal 6)) held s m t ≡ countedAs c before q (eventFrom (Counted p))
     limit-is x = rw (← w .from-at .mirrors, ← w .to-at .mirrors, x)
 
     -- the counter of pairs is full
-    pub way-full : (b : Bool) → b ≡ not (overCounter (k .pairs + 1)) → not b ≡ true → (d : Done) → d ≡ limited held → ended (d .answer) (d .next) s m t ≡ countedAs c before q (eventFrom (Counted p))
+    pub way-full : (b : Bool) → b ≡ not (overCounter (k .pairs + 1)) → not b ≡ true → (d : Done) → d ≡ limited held
+        → ended (d .answer) (d .next) s m t ≡ countedAs c before q (eventFrom (Counted p))
     way-full b x y d g = rw (g, limit-is (rw (may-not (k .pairs) b x (not-true b y))))
 
-    module _ (n : ℕ) (n-is : n ≡ states c) (e′ : PairEntry) (e-is : e′ ≡ e) (b : Bool) (b-is : b ≡ not (touchedOver n (forthOf e′) (backOf e′) (enterBoth n (forthOf e′) (backOf e′) (tables s m t)))) where
+    module _ (n : ℕ) (n-is : n ≡ states c) (e′ : PairEntry) (e-is : e′ ≡ e) (b : Bool)
+        (b-is : b ≡ not (touchedOver n (forthOf e′) (backOf e′) (enterBoth n (forthOf e′) (backOf e′) (tables s m t)))) where
       b-here : b ≡ not (touchedOver (states c) (forthOf e) (backOf e) after)
       b-here = rw (n-is, e-is) at b-is
 
@@ -163,7 +175,9 @@ module _ (c : MicroPriceConfig) (l : Previous) (k : Counters) (s m : List ℕ) (
           rw (g, limit-is (rw f (or-true (overCounter (k .pairs + 1)))))
 
       -- entered
-      pub way-entered : (a : Bool) → a ≡ not (overCounter (k .pairs + 1)) → not a ≡ false → not b ≡ false → (s′ m′ : List ℕ) (t′ : List ℤ) → tables s′ m′ t′ ≡ enterBoth n (forthOf e′) (backOf e′) (tables s m t) → (k′ : Counters) → k′ ≡ addPair k e′ → (d : Done) → d ≡ accepted k′ q → ended (d .answer) (d .next) s′ m′ t′ ≡ countedAs c before q (eventFrom (Counted p))
+      pub way-entered : (a : Bool) → a ≡ not (overCounter (k .pairs + 1)) → not a ≡ false → not b ≡ false → (s′ m′ : List ℕ) (t′ : List ℤ)
+          → tables s′ m′ t′ ≡ enterBoth n (forthOf e′) (backOf e′) (tables s m t) → (k′ : Counters) → k′ ≡ addPair k e′ → (d : Done) → d ≡ accepted k′ q
+          → ended (d .answer) (d .next) s′ m′ t′ ≡ countedAs c before q (eventFrom (Counted p))
       way-entered a x y z s′ m′ t′ u k′ v d g =
           let f : touchedOver (states c) (forthOf e) (backOf e) after ≡ false = not-true _ (sym b-here ∙ not-false b z) in
           let h : tables s′ m′ t′ ≡ after = rw (n-is, e-is) at u in

@@ -2,6 +2,7 @@
 use Prim.Native.Nat.{ℕ, _+_, _≤_, max}
 use mathlib.Core.List.{List, [], _∷_}
 use lib.IntN.{ℤ, natAbs}
+use Rattle.basics.specs.Loan.{Loan, given, final}
 use Rattle.signed.specs.Totals.{change}
 use Rattle.refusals.specs.Refusals.{refusal}
 use Rattle.refusals.specs.declared.Check.{Check}
@@ -45,6 +46,17 @@ pub record Outcome (Last : Type 0) : Type 0 where
 
 abbrev pub ended : Check → Record → List ℕ → List ℕ → List ℤ → Outcome Previous
 ended k r s m t = record { answer = k; left = memory r s m t }
+
+-- ---- contracts speak of lent tables by these: the memory that came, the memory that remains, and what an operation leaves
+
+abbrev pub came : Record → Loan (List ℕ) → Loan (List ℕ) → Loan (List ℤ) → Memory Previous
+came r s m t = memory r (given s) (given m) (given t)
+
+abbrev pub remains : Record → Loan (List ℕ) → Loan (List ℕ) → Loan (List ℤ) → Memory Previous
+remains r s m t = memory r (final s) (final m) (final t)
+
+abbrev pub leaves : Check → Record → Loan (List ℕ) → Loan (List ℕ) → Loan (List ℤ) → Outcome Previous
+leaves k r s m t = record { answer = k; left = remains r s m t }
 
 -- a refusal changes nothing
 abbrev pub answered : {Last : Type 0} → Check → Memory Last → Memory Last → Outcome Last

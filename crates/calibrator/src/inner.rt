@@ -17,13 +17,14 @@ ghost use Prim.Native.Nat.{ℕ, _+_, _*_, _≤_, _<_, _^_};
 ghost use lib.ListN.{length, replicate};
 ghost use lib.IntN.{ℤ, pos};
 ghost use mathlib.Core.List.{List};
+ghost use Rattle.basics.specs.Loan.{given, final};
 ghost use Rattle.config.specs.Configuration.{states};
 ghost use Rattle.config.specs.Known.{Valid};
 ghost use Rattle.quotes.specs.Neighbours.{neighboursOf};
 ghost use Rattle.quotes.specs.Known.{Accepted};
 ghost use Rattle.quotes.specs.Quotes.{checkQuote};
 ghost use Rattle.tally.specs.Events.{skip};
-ghost use Rattle.calibrator.specs.Record.{ended, memory, skipCount, addSkip, addPair, accepted, limited, pickDone, noCounters, entryOf, kindOf, Countable};
+ghost use Rattle.calibrator.specs.Record.{ended, memory, skipCount, addSkip, addPair, accepted, limited, pickDone, noCounters, entryOf, kindOf, Countable, came, leaves};
 ghost use Rattle.calibrator.specs.Observe.{eventFrom, wrongLengths, checkRoom, judgePair, made, observed, countedAs};
 
 pub fn wrong_lengths(n: usize, stay: usize, moved: usize, totals: usize) -> bool
@@ -162,7 +163,7 @@ fn count_pair(
     pair: Pair,
 ) -> Done
     requires { ⌜ Valid c × Countable c pair × (wrongLengths (states c) (length (now stay)) (length (now moved)) (length (now totals)) ≡ false) ⌝ }
-    ensures { λ d. ⌜ ended (d .answer) (d .next) (now (stay .exit)) (now (moved .exit)) (now (totals .exit)) ≡ countedAs c (memory rec (now (stay .entry)) (now (moved .entry)) (now (totals .entry))) quote (eventFrom (Neighbours.Counted pair)) ⌝ }
+    ensures { λ d. ⌜ leaves (d .answer) (d .next) stay moved totals ≡ countedAs c (came rec stay moved totals) quote (eventFrom (Neighbours.Counted pair)) ⌝ }
 {
     let n = config::inner::state_count(c);
     let e = entry_of(pair);
@@ -187,8 +188,9 @@ fn next_quote(
     last: TopOfBook,
     quote: TopOfBook,
 ) -> Done
-    requires { ⌜ Valid c × Accepted c last × Accepted c quote × (last .«timestamp_ms» ≤ quote .«timestamp_ms») × (wrongLengths (states c) (length (now stay)) (length (now moved)) (length (now totals)) ≡ false) ⌝ }
-    ensures { λ d. ⌜ ended (d .answer) (d .next) (now (stay .exit)) (now (moved .exit)) (now (totals .exit)) ≡ countedAs c (memory rec (now (stay .entry)) (now (moved .entry)) (now (totals .entry))) quote (eventFrom (neighboursOf c last quote)) ⌝ }
+    requires { ⌜ Valid c × Accepted c last × Accepted c quote × (last .«timestamp_ms» ≤ quote .«timestamp_ms»)
+        × (wrongLengths (states c) (length (now stay)) (length (now moved)) (length (now totals)) ≡ false) ⌝ }
+    ensures { λ d. ⌜ leaves (d .answer) (d .next) stay moved totals ≡ countedAs c (came rec stay moved totals) quote (eventFrom (neighboursOf c last quote)) ⌝ }
 {
     let found = quotes::inner::neighbours(c, last, quote);
     match found {
@@ -222,7 +224,7 @@ pub fn observe(
     config: MicroPriceConfig,
     quote: TopOfBook,
 ) -> Done
-    ensures { λ d. ⌜ ended (d .answer) (d .next) (now (stay .exit)) (now (moved .exit)) (now («move_half_ticks» .exit)) ≡ observed config (memory rec (now (stay .entry)) (now (moved .entry)) (now («move_half_ticks» .entry))) quote ⌝ }
+    ensures { λ d. ⌜ leaves (d .answer) (d .next) stay moved «move_half_ticks» ≡ observed config (came rec stay moved «move_half_ticks») quote ⌝ }
 {
     let room = check_room(config, stay.len(), moved.len(), move_half_ticks.len());
     let Check::Fine = room else {
@@ -246,7 +248,7 @@ pub fn observe(
 }
 
 fn zero_cells(t: &mut [u64])
-    ensures { λ r. ⌜ now (t .exit) ≡ replicate (length (now (t .entry))) 0 ⌝ }
+    ensures { λ r. ⌜ final t ≡ replicate (length (given t)) 0 ⌝ }
 {
     let mut i = 0;
     while i < t.len() {
@@ -256,7 +258,7 @@ fn zero_cells(t: &mut [u64])
 }
 
 fn zero_totals(t: &mut [i64])
-    ensures { λ r. ⌜ now (t .exit) ≡ replicate (length (now (t .entry))) (pos 0) ⌝ }
+    ensures { λ r. ⌜ final t ≡ replicate (length (given t)) (pos 0) ⌝ }
 {
     let mut i = 0;
     while i < t.len() {
@@ -284,7 +286,7 @@ pub fn new(
     move_half_ticks: &mut [i64],
     config: MicroPriceConfig,
 ) -> Done
-    ensures { λ d. ⌜ ended (d .answer) (d .next) (now (stay .exit)) (now (moved .exit)) (now («move_half_ticks» .exit)) ≡ made config (memory rec (now (stay .entry)) (now (moved .entry)) (now («move_half_ticks» .entry))) ⌝ }
+    ensures { λ d. ⌜ leaves (d .answer) (d .next) stay moved «move_half_ticks» ≡ made config (came rec stay moved «move_half_ticks») ⌝ }
 {
     let room = check_room(config, stay.len(), moved.len(), move_half_ticks.len());
     let Check::Fine = room else {

@@ -6,7 +6,8 @@ use refusals::Check;
 pub mod inner;
 
 ghost use mathlib.Core.Path.{_≡_};
-ghost use Rattle.calibrator.specs.Record.{ended, memory};
+ghost use Rattle.basics.specs.Loan.{given, final};
+ghost use Rattle.calibrator.specs.Record.{came, leaves};
 ghost use Rattle.calibrator.specs.Observe.{made, observed};
 
 // The last quote, if any.
@@ -46,7 +47,7 @@ pub fn new(
     move_half_ticks: &mut [i64],
     config: MicroPriceConfig,
 ) -> Check
-    ensures { λ r. ⌜ ended r (now (rec .exit)) (now (stay .exit)) (now (moved .exit)) (now («move_half_ticks» .exit)) ≡ made config (memory (now (rec .entry)) (now (stay .entry)) (now (moved .entry)) (now («move_half_ticks» .entry))) ⌝ }
+    ensures { λ r. ⌜ leaves r (final rec) stay moved «move_half_ticks» ≡ made config (came (given rec) stay moved «move_half_ticks») ⌝ }
 {
     let done = inner::new(*rec, stay, moved, move_half_ticks, config);
     *rec = done.next;
@@ -62,7 +63,7 @@ pub fn observe(
     config: MicroPriceConfig,
     quote: TopOfBook,
 ) -> Check
-    ensures { λ r. ⌜ ended r (now (rec .exit)) (now (stay .exit)) (now (moved .exit)) (now («move_half_ticks» .exit)) ≡ observed config (memory (now (rec .entry)) (now (stay .entry)) (now (moved .entry)) (now («move_half_ticks» .entry))) quote ⌝ }
+    ensures { λ r. ⌜ leaves r (final rec) stay moved «move_half_ticks» ≡ observed config (came (given rec) stay moved «move_half_ticks») quote ⌝ }
 {
     let done = inner::observe(*rec, stay, moved, move_half_ticks, config, quote);
     *rec = done.next;

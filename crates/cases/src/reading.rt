@@ -3,6 +3,7 @@ use config::MicroPriceConfig;
 use quotes::TopOfBook;
 ghost use Prim.Native.Nat.{_<_, _≤_};
 ghost use lib.ListN.{length};
+ghost use Rattle.basics.specs.Loan.{given};
 
 // A word, or 0 past the end.
 pub fn word_at(words: &[u64], i: usize) -> u64 {
@@ -28,7 +29,7 @@ fn put_digit(words: &mut [u64], k: usize, b: u8) {
 
 // Reads a line into words that are 0. Answers where the next line begins.
 pub fn read_line(text: &[u8], at: usize, words: &mut [u64]) -> usize
-    ensures { λ r. ⌜ (at < length (now (text .entry)) → at < r) ⌝ }
+    ensures { λ r. ⌜ (at < length (given text) → at < r) ⌝ }
 {
     let mut i = at;
     let mut k: usize = 0;

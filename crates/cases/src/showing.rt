@@ -3,6 +3,7 @@ use crate::tables::minus;
 use libc::STDOUT_FILENO;
 ghost use Prim.Native.Nat.{_≤_};
 ghost use lib.ListN.{length};
+ghost use Rattle.basics.specs.Loan.{given};
 
 pub fn show(w: u64) {
     io::print_decimal(STDOUT_FILENO, w);
@@ -49,7 +50,7 @@ fn one_unless_zero(w: u64) -> usize
 
 // How many words are not 0.
 fn count_cells(table: &[u64]) -> usize
-    ensures { λ r. ⌜ r ≤ length (now (table .entry)) ⌝ }
+    ensures { λ r. ⌜ r ≤ length (given table) ⌝ }
 {
     let mut count: usize = 0;
     let mut k: usize = 0;
@@ -62,7 +63,7 @@ fn count_cells(table: &[u64]) -> usize
 
 // How many totals are not 0.
 fn count_totals(totals: &[i64]) -> usize
-    ensures { λ r. ⌜ r ≤ length (now (totals .entry)) ⌝ }
+    ensures { λ r. ⌜ r ≤ length (given totals) ⌝ }
 {
     let mut count: usize = 0;
     let mut i: usize = 0;

@@ -70,9 +70,12 @@ module _ (c : MicroPriceConfig) (m : Memory Previous) (t₀ : List ℕ) (l : Lis
       subst (λ (j : ℕ). RowsMirror (rowAt t (a .state)) (rowAt t j)) (sym (p .mirrors))
       (record { status-same = sym (o .status-same); sum-zero = o .final-opposite .sum-zero }))
 
-  checked : ((i : ℕ) → i < states c → (rowAt t i .status ≡ 1) ⊎ (rowAt t i .status ≡ 2) → eq (rowAt t i .adjustment) posZero ≡ true) → checkModel c t ≡ Check.Fine
+  checked : ((i : ℕ) → i < states c → (rowAt t i .status ≡ 1) ⊎ (rowAt t i .status ≡ 2) → eq (rowAt t i .adjustment) posZero ≡ true)
+      → checkModel c t ≡ Check.Fine
   checked rest =
-      let row : (i : ℕ) → i < states c → checkRow c t i ≡ Check.Fine = λ i h. ap (λ (b : Bool). cond b Check.Fine (Check.Refused (ModelRow i))) (row-checked c i (rowAt t i) (row-of i h) (inside i h) (rowAt t (mirrorOf (c .«imbalance_buckets») i)) (row-held t i) (mirrored i h) (rest i h)) in
+      let row : (i : ℕ) → i < states c → checkRow c t i ≡ Check.Fine =
+      λ i h. ap (λ (b : Bool). cond b Check.Fine (Check.Refused (ModelRow i)))
+      (row-checked c i (rowAt t i) (row-of i h) (inside i h) (rowAt t (mirrorOf (c .«imbalance_buckets») i)) (row-held t i) (mirrored i h) (rest i h)) in
       λ d.
       firstOf (refuseIf (not (fit-valid 10000 9 c m t₀ l fine d)) 1)
       (firstOf (refuseIf (not (eq-eqb (length t) (7 * states c) (table-long 10000 9 c m t₀ l fine) d)) 7)
@@ -98,15 +101,19 @@ module _ (c : MicroPriceConfig) (e : valid c ≡ true) (fits : ConfigWords c) (k
 
   pub fit-after : (scratch model : ℕ) → fitRefusal c (left c ks) scratch model ≡ refuseIf (wrongRoom (states c) scratch model) 7
   fit-after scratch model =
-      (λ d. firstOf (room-fine c e (left c ks) left-holds d) (firstOf (refuseIf (wrongRoom (states c) scratch model) 7) (check-fine (states c) (mirrorOf (c .«imbalance_buckets»)) (left c ks .counts) (left-holds .balanced) (left-holds .within) d)))
+      (λ d. firstOf (room-fine c e (left c ks) left-holds d)
+      (firstOf (refuseIf (wrongRoom (states c) scratch model) 7)
+      (check-fine (states c) (mirrorOf (c .«imbalance_buckets»)) (left c ks .counts) (left-holds .balanced) (left-holds .within) d)))
       ∙ first-last (refuseIf (wrongRoom (states c) scratch model) 7)
 
-  pub numbers-after : (t : List ℕ) (l : List Float) (r : Refusal) → fitCounts c (left c ks) t l .answer ≡ Check.Refused r → (numberOf r ≡ 7) ⊎ ((16 ≤ numberOf r) × (numberOf r ≤ 19))
+  pub numbers-after : (t : List ℕ) (l : List Float) (r : Refusal) → fitCounts c (left c ks) t l .answer ≡ Check.Refused r
+      → (numberOf r ≡ 7) ⊎ ((16 ≤ numberOf r) × (numberOf r ≤ 19))
   numbers-after t l r a = go (wrongRoom (states c) (length l) (length t)) (fit-after (length l) (length t))
     where
       go : (b : Bool) → fitRefusal c (left c ks) (length l) (length t) ≡ refuseIf b 7 → (numberOf r ≡ 7) ⊎ ((16 ≤ numberOf r) × (numberOf r ≤ 19))
       go true f =
-          let k : Check.Refused (refusal 7) ≡ Check.Refused r = ap (λ (x : Check). fitUnless x (states c) (fitOf 10000 10 (givenOf c (left c ks .counts))) t l .answer) (sym f) ∙ a in
+          let k : Check.Refused (refusal 7) ≡ Check.Refused r =
+          ap (λ (x : Check). fitUnless x (states c) (fitOf 10000 10 (givenOf c (left c ks .counts))) t l .answer) (sym f) ∙ a in
           let q : refusal 7 ≡ r = cc in
           inl (ap numberOf (sym q))
       go false f = inr (fit-numbers 10000 9 c (left c ks) t l r f a)
@@ -115,7 +122,8 @@ module _ (c : MicroPriceConfig) (e : valid c ≡ true) (fits : ConfigWords c) (k
   pub model-after : (t : List ℕ) (l : List Float) → fitCounts c (left c ks) t l .answer ≡ Check.Fine → Model c (fitCounts c (left c ks) t l .model)
   model-after t l fine = model-fitted c (left c ks) t l fine
 
-  pub signal-after : (t : List ℕ) (l : List Float) → fitCounts c (left c ks) t l .answer ≡ Check.Fine → (q : TopOfBook) (i : ℕ) → signalOf c (fitCounts c (left c ks) t l .model) q ≡ Refused (ModelRow i) → ⊥
+  pub signal-after : (t : List ℕ) (l : List Float) → fitCounts c (left c ks) t l .answer ≡ Check.Fine → (q : TopOfBook) (i : ℕ)
+      → signalOf c (fitCounts c (left c ks) t l .model) q ≡ Refused (ModelRow i) → ⊥
   signal-after t l fine = model-after t l fine .served
 
   -- demand 3

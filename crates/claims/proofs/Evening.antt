@@ -8,6 +8,7 @@ use native.Mathlib.Omega.{arith}
 use lib.ListN.{length, getD}
 use lib.Ieee.{Float}
 use borrow.Author.Tests.{not-false}
+use Rattle.basics.proofs.Tests.{zero-not-one}
 use Rattle.basics.specs.Lists.{bit, tab}
 use Rattle.words.specs.Words.{AllWords}
 use Rattle.refusals.specs.Refusals.{numberOf, refusal, refuseIf, firstOf}
@@ -113,7 +114,8 @@ module _ (c : MicroPriceConfig) where
     not-stopped : isStop a ≡ false
     not-stopped = go (isStop a) refl fine
       where
-        go : (b : Bool) → isStop a ≡ b → cond b (recordedAs a k (observed c m q .left)) (recorded c qs (k + bit (isInvalid a)) (observed c m q .left)) .answer ≡ Check.Fine → b ≡ false
+        go : (b : Bool) → isStop a ≡ b
+            → cond b (recordedAs a k (observed c m q .left)) (recorded c qs (k + bit (isInvalid a)) (observed c m q .left)) .answer ≡ Check.Fine → b ≡ false
         go false s f = refl
         go true s f = sym s ∙ ap isStop f
 
@@ -121,16 +123,19 @@ module _ (c : MicroPriceConfig) where
     rest-fine = sym (ap (λ r. r .answer) (goes-on (observed c) q qs k m (observed c m q) refl not-stopped)) ∙ fine
 
   -- a history gains a quote exactly if 3 and 4 do not refuse it, where nothing else does
-  gained : (P : Past) (q : TopOfBook) (ps : List TopOfBook) (k : Check) → isStop k ≡ false → isInvalid k ≡ unusable c q → joined (tellQuote k P (gains (P .now) q) .past .now) ps ≡ joined (P .now) (cond (usable c q) (q ∷ ps) ps)
+  gained : (P : Past) (q : TopOfBook) (ps : List TopOfBook) (k : Check) → isStop k ≡ false → isInvalid k ≡ unusable c q
+      → joined (tellQuote k P (gains (P .now) q) .past .now) ps ≡ joined (P .now) (cond (usable c q) (q ∷ ps) ps)
   gained P q ps Check.Fine s i = rw (← i) (ap (λ l. record { start = P .now .start; quotes = l }) (append-assoc (P .now .quotes) (q ∷ []) ps))
   gained P q ps (Check.Refused r) s i = let u : unusable c q ≡ true = sym i ∙ not-false (isInvalid (Check.Refused r)) s in rw u
 
   -- where nothing stops the count and the history answers as the operations do, it gains those
-  story-quotes : (qs : List TopOfBook) (P : Past) (k : ℕ) (m : Memory Previous) → recorded c qs k m .answer ≡ Check.Fine → run c m (callsOf qs) .answers ≡ story c P (callsOf qs) .answers → story c P (callsOf qs) .past .now ≡ joined (P .now) (filter (usable c) qs)
+  story-quotes : (qs : List TopOfBook) (P : Past) (k : ℕ) (m : Memory Previous) → recorded c qs k m .answer ≡ Check.Fine
+      → run c m (callsOf qs) .answers ≡ story c P (callsOf qs) .answers → story c P (callsOf qs) .past .now ≡ joined (P .now) (filter (usable c) qs)
   story-quotes [] P k m fine e = ap (λ l. record { start = P .now .start; quotes = l }) (sym (append-nil (P .now .quotes)))
   story-quotes (q ∷ qs) P k m fine e =
       let K : Check = historyRefusal c (P .now) q in
-      let s = same-first (observes (observed c m q .answer)) (tellQuote K P (gains (P .now) q) .answer) (run c (observed c m q .left) (callsOf qs) .answers) (story c (tell c P (quote q) .past) (callsOf qs) .answers) e in
+      let s = same-first (observes (observed c m q .answer)) (tellQuote K P (gains (P .now) q) .answer) (run c (observed c m q .left) (callsOf qs) .answers)
+      (story c (tell c P (quote q) .past) (callsOf qs) .answers) e in
       let same : observed c m q .answer ≡ K = same-check (observed c m q .answer) K (s .0 ∙ tell-answer K P (gains (P .now) q)) in
       story-quotes qs (tell c P (quote q) .past) (k + bit (isInvalid (observed c m q .answer))) (observed c m q .left) (rest-fine q qs k m fine) (s .1)
       ∙ gained P q (filter (usable c) qs) K (ap isStop (sym same) ∙ not-stopped q qs k m fine)
@@ -146,13 +151,16 @@ module _ (c : MicroPriceConfig) where
     refused : observed c (run c m (callsOf ps) .left) q .answer ≡ Check.Refused r
 
   stop : (qs : List TopOfBook) (k : ℕ) (m : Memory Previous) (r : Refusal) → recorded c qs k m .answer ≡ Check.Refused r → Stop qs k m r
-  stop [] k m r e = absurd (let z : _≡_ {A = ℕ} 0 1 = cc in omega arith)
+  stop [] k m r e = absurd (zero-not-one cc)
   stop (q ∷ qs) k m r e = go (stop qs (k + bit (isInvalid a)) (observed c m q .left) r) (isStop a) refl e
     where
       a : Check
       a = observed c m q .answer
 
-      go : (recorded c qs (k + bit (isInvalid a)) (observed c m q .left) .answer ≡ Check.Refused r → Stop qs (k + bit (isInvalid a)) (observed c m q .left) r) → (b : Bool) → isStop a ≡ b → cond b (recordedAs a k (observed c m q .left)) (recorded c qs (k + bit (isInvalid a)) (observed c m q .left)) .answer ≡ Check.Refused r → Stop (q ∷ qs) k m r
+      go : (recorded c qs (k + bit (isInvalid a)) (observed c m q .left) .answer ≡ Check.Refused r → Stop qs (k + bit (isInvalid a)) (observed c m q .left) r)
+          → (b : Bool) → isStop a ≡ b
+          → cond b (recordedAs a k (observed c m q .left)) (recorded c qs (k + bit (isInvalid a)) (observed c m q .left)) .answer ≡ Check.Refused r
+          → Stop (q ∷ qs) k m r
       go later true s f = record { ps = []; q = q; rest = qs; split = refl; before = refl; refused = f }
       go later false s f =
           let d = later f in
@@ -174,7 +182,7 @@ Each P (Check.Refused r) = P r
 -- 6 is answered only past a limit
 limit : (k : Check) (b : Bool) (r : Refusal) → Each (λ x. numberOf x ≡ 6 → ⊥) k → firstOf k (refuseIf b 6) ≡ Check.Refused r → numberOf r ≡ 6 → b ≡ true
 limit k true r n e six = refl
-limit Check.Fine false r n e six = absurd (let z : _≡_ {A = ℕ} 0 1 = cc in omega arith)
+limit Check.Fine false r n e six = absurd (zero-not-one cc)
 limit (Check.Refused x) false r n e six = absurd (n (cc))
 
 none-six : (c : MicroPriceConfig) (q : TopOfBook) (b : Bool) → Each (λ x. numberOf x ≡ 6 → ⊥) (firstOf (checkQuote c q) (refuseIf b 5))
@@ -196,7 +204,7 @@ same-refusal : (a b : Refusal) → Refused a ≡ Refused b → a ≡ b
 same-refusal a b e = cc
 
 fitted-refused : (a : Counted) (b : Refusal) → Fitted a ≡ Refused b → ⊥
-fitted-refused a b e = let z : _≡_ {A = ℕ} 0 1 = cc in omega arith
+fitted-refused a b e = zero-not-one cc
 
 module _ (c : MicroPriceConfig) (fits : ConfigWords c) (e : valid c ≡ true) where
   demand : (qs : List TopOfBook) → AllQuotes qs → Demand3Whole c (callsOf qs)
@@ -214,7 +222,8 @@ module _ (c : MicroPriceConfig) (fits : ConfigWords c) (e : valid c ≡ true) wh
       let late : Bool = earlier (historyMemory c H .last) (s .q) in
       let first : AllQuotes (s .ps) = first-fit (s .ps) (s .q ∷ s .rest) (subst AllQuotes (s .split) words) in
       let is : historyOf c (callsOf (s .ps)) ≡ H = history-is (s .ps) first (s .before) in
-      let refused : historyRefusal c H (s .q) ≡ Check.Refused r = sym (demand (s .ps) first .history .quote-refused (s .q) ∙ ap (λ (h : History). historyRefusal c h (s .q)) is) ∙ s .refused in
+      let refused : historyRefusal c H (s .q) ≡ Check.Refused r =
+      sym (demand (s .ps) first .history .quote-refused (s .q) ∙ ap (λ (h : History). historyRefusal c h (s .q)) is) ∙ s .refused in
       record {
         earlier = s .ps;
         here = s .q;
@@ -227,17 +236,22 @@ module _ (c : MicroPriceConfig) (fits : ConfigWords c) (e : valid c ≡ true) wh
       }
 
   -- quotes counted and fitted
-  module _ (qs : List TopOfBook) (words : AllQuotes qs) (ordered : sorted qs ≡ true) (t : List ℕ) (l : List Float) (room : wrongRoom (states c) (length l) (length t) ≡ false) where
+  module _ (qs : List TopOfBook) (words : AllQuotes qs) (ordered : sorted qs ≡ true) (t : List ℕ) (l : List Float)
+      (room : wrongRoom (states c) (length l) (length t) ≡ false) where
     abbrev R : RecordedOutcome Previous
     R = recorded c qs 0 (fresh c)
 
-    fitted-evening : R .answer ≡ Check.Fine → FittedEvening c qs t l (countedBy c Check.Fine (R .invalid) (R .left) t l) (record { answer = fitCounts c (R .left) t l .answer; invalid = R .invalid })
+    fitted-evening : R .answer ≡ Check.Fine
+        → FittedEvening c qs t l (countedBy c Check.Fine (R .invalid) (R .left) t l)
+        (record { answer = fitCounts c (R .left) t l .answer; invalid = R .invalid })
     fitted-evening fine =
         let D : Demand3Whole c (callsOf qs) = demand qs words in
         let H : historyOf c (callsOf qs) ≡ acceptedOf c qs = history-is qs words fine in
         let M : R .left ≡ historyMemory c (historyOf c (callsOf qs)) = new-left c e qs ordered fine ∙ ap (historyMemory c) (sym H) in
         let L : R .left ≡ left c (callsOf qs) = M ∙ sym (D .history .memory) in
-        let F : fitRefusal c (R .left) (length l) (length t) ≡ Check.Fine = ap (λ (x : Memory Previous). fitRefusal c x (length l) (length t)) L ∙ D .fit-refused (length l) (length t) ∙ ap (λ (b : Bool). refuseIf b 7) room in
+        let F : fitRefusal c (R .left) (length l) (length t) ≡ Check.Fine =
+        ap (λ (x : Memory Previous). fitRefusal c x (length l) (length t)) L ∙ D .fit-refused (length l) (length t)
+        ∙ ap (λ (b : Bool). refuseIf b 7) room in
         record {
           history-is = H;
           memory-is = M;
@@ -250,13 +264,14 @@ module _ (c : MicroPriceConfig) (fits : ConfigWords c) (e : valid c ≡ true) wh
         }
 
     module _ (m : Memory Previous) where
-      stopped-evening : (k : ℕ) → oneOf (7 ∷ 14 ∷ 15 ∷ 1 ∷ []) (refusal k) ≡ false → oneOf (7 ∷ 14 ∷ 15 ∷ 1 ∷ 2 ∷ 6 ∷ []) (refusal k) ≡ true → (r : Refusal) → R .answer ≡ Check.Refused r → R .answer ≡ Check.Refused (refusal k) → RefusedEvening c m qs t l (endEvening (Refused r) (fresh c) t l) r
+      stopped-evening : (k : ℕ) → oneOf (7 ∷ 14 ∷ 15 ∷ 1 ∷ []) (refusal k) ≡ false → oneOf (7 ∷ 14 ∷ 15 ∷ 1 ∷ 2 ∷ 6 ∷ []) (refusal k) ≡ true → (r : Refusal)
+          → R .answer ≡ Check.Refused r → R .answer ≡ Check.Refused (refusal k) → RefusedEvening c m qs t l (endEvening (Refused r) (fresh c) t l) r
       stopped-evening k n a r f g =
           let same : refusal k ≡ r = cc in
           subst (λ (x : Refusal). RefusedEvening c m qs t l (endEvening (Refused x) (fresh c) t l) x) same
           (record {
             number = a;
-            unchanged = λ u. absurd (let z : _≡_ {A = ℕ} 0 1 = cc in omega arith);
+            unchanged = λ u. absurd (zero-not-one cc);
             stopped = λ u. (refl, stopped-at qs words (refusal k) g);
           })
 
@@ -274,11 +289,12 @@ module _ (c : MicroPriceConfig) (fits : ConfigWords c) (e : valid c ≡ true) wh
           }
         where
           go : Ended (R .answer) → RefusedEvening c m qs t l (endEvening (Refused x) (fresh c) t l) x
-          go (inl g) = absurd (let z : _≡_ {A = ℕ} 0 1 = cc in omega arith)
+          go (inl g) = absurd (zero-not-one cc)
           go (inr (inl g)) = stopped-evening 2 refl refl x f g
           go (inr (inr g)) = stopped-evening 6 refl refl x f g
 
-module _ (c : MicroPriceConfig) (fits : ConfigWords c) (m : Memory Previous) (w : List ℕ) (words : AllWords w) (start end : ℕ) (t : List ℕ) (l : List Float) where
+module _ (c : MicroPriceConfig) (fits : ConfigWords c) (m : Memory Previous) (w : List ℕ) (words : AllWords w) (start end : ℕ) (t : List ℕ)
+    (l : List Float) where
   abbrev qs : List TopOfBook
   qs = windowQuotes w start end
 
@@ -299,18 +315,21 @@ module _ (c : MicroPriceConfig) (fits : ConfigWords c) (m : Memory Previous) (w 
   wrongSlices = wrongRoom (states c) (length l) (length t)
 
   -- 7, 14, 15, 1: unchanged
-  unchanged-evening : (k : ℕ) → oneOf (2 ∷ 6 ∷ []) (refusal k) ≡ false → oneOf (7 ∷ 14 ∷ 15 ∷ 1 ∷ 2 ∷ 6 ∷ []) (refusal k) ≡ true → RefusedEvening c m qs t l (endEvening (Refused (refusal k)) m t l) (refusal k)
+  unchanged-evening : (k : ℕ) → oneOf (2 ∷ 6 ∷ []) (refusal k) ≡ false → oneOf (7 ∷ 14 ∷ 15 ∷ 1 ∷ 2 ∷ 6 ∷ []) (refusal k) ≡ true
+      → RefusedEvening c m qs t l (endEvening (Refused (refusal k)) m t l) (refusal k)
   unchanged-evening k n a =
       record {
         number = a;
         unchanged = λ u. refl;
-        stopped = λ u. absurd (let z : _≡_ {A = ℕ} 0 1 = cc in omega arith);
+        stopped = λ u. absurd (zero-not-one cc);
       }
 
   refused-first : Each (λ r. RefusedEvening c m qs t l (endEvening (Refused r) m t l) r) (eveningRefusal c m w start end (length l) (length t))
   refused-first = go (uneven w) outOfOrder (backward start end (quotesOf w)) (not (valid c)) wrongTables wrongSlices
     where
-      go : (a b d e f g : Bool) → Each (λ r. RefusedEvening c m qs t l (endEvening (Refused r) m t l) r) (firstOf (firstOf (refuseIf a 7) (firstOf (refuseIf b 14) (refuseIf d 15))) (firstOf (firstOf (refuseIf e 1) (refuseIf f 7)) (refuseIf g 7)))
+      go : (a b d e f g : Bool)
+          → Each (λ r. RefusedEvening c m qs t l (endEvening (Refused r) m t l) r)
+          (firstOf (firstOf (refuseIf a 7) (firstOf (refuseIf b 14) (refuseIf d 15))) (firstOf (firstOf (refuseIf e 1) (refuseIf f 7)) (refuseIf g 7)))
       go true b d e f g = unchanged-evening 7 refl refl
       go false true d e f g = unchanged-evening 14 refl refl
       go false false true e f g = unchanged-evening 15 refl refl
@@ -319,18 +338,23 @@ module _ (c : MicroPriceConfig) (fits : ConfigWords c) (m : Memory Previous) (w 
       go false false false false false true = unchanged-evening 7 refl refl
       go false false false false false false = tt
 
-  evening-from : (k : Check) → eveningRefusal c m w start end (length l) (length t) ≡ k → EveningHistory c m qs t l (eveningUnless k m t l (counted c (recorded c qs 0 (fresh c)) t l))
+  evening-from : (k : Check) → eveningRefusal c m w start end (length l) (length t) ≡ k
+      → EveningHistory c m qs t l (eveningUnless k m t l (counted c (recorded c qs 0 (fresh c)) t l))
   evening-from Check.Fine f =
       let a = first-fine window (firstOf room (refuseIf wrongSlices 7)) f in
       let b = first-fine room (refuseIf wrongSlices 7) (a .1) in
       let times = first-fine (refuseIf (uneven w) 7) (firstOf (refuseIf outOfOrder 14) (refuseIf (backward start end (quotesOf w)) 15)) (a .0) .1 in
-      let ordered : sorted (quotesOf w) ≡ true = not-false _ (if-fine outOfOrder 14 (first-fine (refuseIf outOfOrder 14) (refuseIf (backward start end (quotesOf w)) 15) times .0)) in
+      let ordered : sorted (quotesOf w) ≡ true =
+      not-false _ (if-fine outOfOrder 14 (first-fine (refuseIf outOfOrder 14) (refuseIf (backward start end (quotesOf w)) 15) times .0)) in
       let right : valid c ≡ true = not-false _ (if-fine (not (valid c)) 1 (first-fine (checkConfig c) (refuseIf wrongTables 7) (b .0) .0)) in
-      count-history c fits right qs (filter-fits (inside start end) (quotesOf w) (quotes-fit w words)) (sorted-filter (inside start end) 0 (quotesOf w) ordered) t l (if-fine wrongSlices 7 (b .1)) m (recorded c qs 0 (fresh c) .answer) refl
+      count-history c fits right qs (filter-fits (inside start end) (quotesOf w) (quotes-fit w words))
+      (sorted-filter (inside start end) 0 (quotesOf w) ordered) t l (if-fine wrongSlices 7 (b .1)) m (recorded c qs 0 (fresh c) .answer) refl
   evening-from (Check.Refused x) f =
       record {
         fitted = λ d g. absurd (fitted-refused d x (sym g));
-        refused = λ r g. subst (RefusedEvening c m qs t l (endEvening (Refused x) m t l)) (same-refusal x r g) (subst (Each (λ y. RefusedEvening c m qs t l (endEvening (Refused y) m t l) y)) f refused-first);
+        refused =
+            λ r g. subst (RefusedEvening c m qs t l (endEvening (Refused x) m t l)) (same-refusal x r g)
+            (subst (Each (λ y. RefusedEvening c m qs t l (endEvening (Refused y) m t l) y)) f refused-first);
       }
 
   -- every evening

@@ -3,14 +3,13 @@ use Prim.Native.Nat.{ℕ, zero, suc}
 use mathlib.Core.Path.{_≡_, refl, sym, ap, _∙_}
 use mathlib.Core.Bool.{Bool, true, false, not, _||_, _&&_}
 use mathlib.Core.Logic.{_⊎_, inl, inr}
-use native.Mathlib.Omega.{arith}
 use borrow.Author.Tests.{eq-eqb, eqb-true, le-leb}
 use lib.Dec.{T}
 use lib.IntN.{pos}
 use lib.Ieee.{Float, nan, inf, fin, binary64, add, lt, le, eq, fits, ofBits}
 use lib.Ieee.Bits.{is-true, ofBits-toBits}
 use lib.Ieee.Scale.{finite}
-use Rattle.basics.proofs.Tests.{fails}
+use Rattle.basics.proofs.Tests.{zero-not-one, fails}
 use Rattle.floats.specs.Floats.{posZero, negZero, one, abs, plusZero, toBits, minusZero}
 use Rattle.config.specs.declared.MicroPriceConfig.{MicroPriceConfig}
 use Rattle.model.specs.declared.StateEstimate.{StateEstimate}
@@ -28,10 +27,10 @@ minus-is = refl
 
 minus-turned : (x : Float) → plusZero x ≡ fin true 0 (pos 0) → ⊥
 unfolding plusZero
-minus-turned nan e = let z : _≡_ {A = ℕ} 0 1 = cc in omega arith
-minus-turned (inf s) e = let z : _≡_ {A = ℕ} 0 1 = cc in omega arith
-minus-turned (fin s zero d) e = let z : _≡_ {A = ℕ} 0 1 = cc in omega arith
-minus-turned (fin s (suc m) d) e = let z : _≡_ {A = ℕ} 0 1 = cc in omega arith
+minus-turned nan e = zero-not-one cc
+minus-turned (inf s) e = zero-not-one cc
+minus-turned (fin s zero d) e = zero-not-one cc
+minus-turned (fin s (suc m) d) e = zero-not-one cc
 
 no-minus : (x : Float) → T (fits binary64 x) → plusZero x ≡ x → minusZero x ≡ false
 no-minus x t h =
@@ -53,10 +52,14 @@ sums o = ap (λ (z : Float). eq z posZero) (o .sum-zero) ∙ zero-own
 
 module _ (c : MicroPriceConfig) (i : ℕ) (e : StateEstimate) (r : RowOf c i e) where
   finites : floatsFinite e ≡ true
-  finites = λ d. is-true (finite (e .«first_adjustment»)) (r .first-finite) d && is-true (finite (e .adjustment)) (r .final-finite) d && is-true (finite (e .«fallback_within_moves»)) (r .share-finite) d
+  finites =
+      λ d. is-true (finite (e .«first_adjustment»)) (r .first-finite) d && is-true (finite (e .adjustment)) (r .final-finite) d && is-true
+      (finite (e .«fallback_within_moves»)) (r .share-finite) d
 
   zeros : Held e → noMinusZero e ≡ true
-  zeros h = λ d. not (no-minus (e .«first_adjustment») (h .first) (r .first-plus) d) && not (no-minus (e .adjustment) (h .final) (r .final-plus) d) && not (no-minus (e .«fallback_within_moves») (h .share) (r .share-plus) d)
+  zeros h =
+      λ d. not (no-minus (e .«first_adjustment») (h .first) (r .first-plus) d) && not (no-minus (e .adjustment) (h .final) (r .final-plus) d) && not
+      (no-minus (e .«fallback_within_moves») (h .share) (r .share-plus) d)
 
   in-range : shareInRange e ≡ true
   in-range = λ d. is-true (le posZero (e .«fallback_within_moves»)) (r .share-least) d && is-true (le (e .«fallback_within_moves») one) (r .share-most) d
@@ -67,7 +70,8 @@ module _ (c : MicroPriceConfig) (i : ℕ) (e : StateEstimate) (r : RowOf c i e) 
       fallback : (e .status ≡ 1) ⊎ (e .status ≡ 2) → (eq (e .«fallback_within_moves») one && eq (e .adjustment) posZero) ≡ true
       fallback s = λ d. (ap (λ (x : Float). eq x one) (r .share-fallback s) ∙ one-own) d && h s d
 
-      go : (a : Bool) → hasStatus Rare e ≡ a → (b : Bool) → hasStatus NoPriceMove e ≡ b → (not (a || b) || (eq (e .«fallback_within_moves») one && eq (e .adjustment) posZero)) ≡ true
+      go : (a : Bool) → hasStatus Rare e ≡ a → (b : Bool) → hasStatus NoPriceMove e ≡ b
+          → (not (a || b) || (eq (e .«fallback_within_moves») one && eq (e .adjustment) posZero)) ≡ true
       go true p b q = fallback (inl (eqb-true (e .status) 1 p))
       go false p true q = fallback (inr (eqb-true (e .status) 2 q))
       go false p false q = refl
@@ -91,11 +95,13 @@ module _ (c : MicroPriceConfig) (i : ℕ) (e : StateEstimate) (r : RowOf c i e) 
     pub row-serves : rowServes c i e ≡ true
     unfolding rowServes
     row-serves =
-        (λ d. le-leb (e .status) 3 (r .status-known) d && (not (hasStatus Calibrated e) || (is-true (finite (e .adjustment)) (r .final-finite) d && le (abs (e .adjustment)) (halfSpreadOf c i))))
+        (λ d. le-leb (e .status) 3 (r .status-known) d &&
+        (not (hasStatus Calibrated e) || (is-true (finite (e .adjustment)) (r .final-finite) d && le (abs (e .adjustment)) (halfSpreadOf c i))))
         ∙ is-inside
 
     -- the check's rules, where a fallback state's adjustment is zero
-    pub row-checked : (mirror : StateEstimate) → Held e → RowsOpposite e mirror → ((e .status ≡ 1) ⊎ (e .status ≡ 2) → eq (e .adjustment) posZero ≡ true) → rowFine c i e mirror ≡ true
+    pub row-checked : (mirror : StateEstimate) → Held e → RowsOpposite e mirror → ((e .status ≡ 1) ⊎ (e .status ≡ 2) → eq (e .adjustment) posZero ≡ true)
+        → rowFine c i e mirror ≡ true
     unfolding rowFine
     row-checked mirror h o rest =
         λ d.

@@ -71,7 +71,8 @@ pub record StoppedAt (c : MicroPriceConfig) (qs : List TopOfBook) (r : Refusal) 
   pub limit-passed : numberOf r ≡ 6 → over (historyMemory c (gains (acceptedOf c earlier) here) .counts) ≡ true
 
 -- such an evening, with m in the record and tables before it, that ends in o and is refused by r before the fit
-pub record RefusedEvening (c : MicroPriceConfig) (m : Memory Previous) (qs : List TopOfBook) (t : List ℕ) (l : List Float) (o : EveningOutcome) (r : Refusal) : Type 0 where
+pub record RefusedEvening (c : MicroPriceConfig) (m : Memory Previous) (qs : List TopOfBook) (t : List ℕ) (l : List Float) (o : EveningOutcome)
+    (r : Refusal) : Type 0 where
   pub number : oneOf (7 ∷ 14 ∷ 15 ∷ 1 ∷ 2 ∷ 6 ∷ []) r ≡ true
   -- 7, 14, 15, 1: no lent memory is changed
   pub unchanged : oneOf (7 ∷ 14 ∷ 15 ∷ 1 ∷ []) r ≡ true → o ≡ endEvening (Refused r) m t l

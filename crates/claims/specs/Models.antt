@@ -36,7 +36,8 @@ pub record Model (c : MicroPriceConfig) (t : List ℕ) : Type 0 where
   -- the signals of a quote and of the same with its sizes exchanged mirror
   pub signals-mirror : (q : TopOfBook) → AnswersMirror (signalOf c t q) (signalOf c t (exchanged q))
   -- the model check accepts it, if the adjustment of each Rare and NoPriceMove row is zero: document 01 makes no claim that it is
-  pub checked : ((i : ℕ) → i < states c → (rowAt t i .status ≡ 1) ⊎ (rowAt t i .status ≡ 2) → eq (rowAt t i .adjustment) posZero ≡ true) → checkModel c t ≡ Check.Fine
+  pub checked : ((i : ℕ) → i < states c → (rowAt t i .status ≡ 1) ⊎ (rowAt t i .status ≡ 2) → eq (rowAt t i .adjustment) posZero ≡ true)
+      → checkModel c t ≡ Check.Fine
 
 -- demand 3 whole, of one configuration and one list of calls
 pub record Demand3Whole (c : MicroPriceConfig) (ks : List Call) : Type 0 where
@@ -44,7 +45,8 @@ pub record Demand3Whole (c : MicroPriceConfig) (ks : List Call) : Type 0 where
   -- before 16 a fit after the list is refused for the lengths of scratch and model table alone
   pub fit-refused : (scratch model : ℕ) → fitRefusal c (left c ks) scratch model ≡ refuseIf (wrongRoom (states c) scratch model) 7
   -- a refusal of a fit after the list is 7, or one of 16 to 19
-  pub fit-numbers : (t : List ℕ) (l : List Float) (r : Refusal) → fitCounts c (left c ks) t l .answer ≡ Check.Refused r → (numberOf r ≡ 7) ⊎ ((16 ≤ numberOf r) × (numberOf r ≤ 19))
+  pub fit-numbers : (t : List ℕ) (l : List Float) (r : Refusal) → fitCounts c (left c ks) t l .answer ≡ Check.Refused r
+      → (numberOf r ≡ 7) ⊎ ((16 ≤ numberOf r) × (numberOf r ≤ 19))
   pub model : (t : List ℕ) (l : List Float) → fitCounts c (left c ks) t l .answer ≡ Check.Fine → Model c (fitCounts c (left c ks) t l .model)
   -- of any quote and any table
   pub signal-inside : (t : List ℕ) (q : TopOfBook) (s : MicroPriceSignal) → signalOf c t q ≡ Sent s → Within q (s .adjustment)

@@ -45,7 +45,8 @@ module _ (w : List ℕ) where
   pub words-back : isRecord w ≡ true → (s m : List ℕ) (t : List ℤ) → wordsOf (memory (recordOf w) s m t) ≡ w
   words-back e s m t = sym (same-equal w (wordsOf (memory (recordOf w) [] [] [])) e)
 
-record-back-of : (l : Previous) (k : Counters) (s m : List ℕ) (t : List ℤ) → recordOf (wordsOf (memory (record { previous = l; counters = k }) s m t)) ≡ record { previous = l; counters = k }
+record-back-of : (l : Previous) (k : Counters) (s m : List ℕ) (t : List ℤ)
+    → recordOf (wordsOf (memory (record { previous = l; counters = k }) s m t)) ≡ record { previous = l; counters = k }
 record-back-of Nothing k s m t = refl
 record-back-of (Quoted q) k s m t = refl
 
@@ -81,12 +82,15 @@ module _ (w : List ℕ) where
   pub record-quoted : length w ≡ 10 → getD w 0 0 ≡ 1 → isRecord w ≡ true
   record-quoted long e =
       subst (λ (x : List ℕ). isRecord x ≡ true) (tab-getD w 10 0 long)
-      (ten-quoted (getD w 0 0) (getD w 1 0) (getD w 2 0) (getD w 3 0) (getD w 4 0) (getD w 5 0) (getD w 6 0) (getD w 7 0) (getD w 8 0) (getD w 9 0) (eq-eqb (getD w 0 0) 1 e))
+      (ten-quoted (getD w 0 0) (getD w 1 0) (getD w 2 0) (getD w 3 0) (getD w 4 0) (getD w 5 0) (getD w 6 0) (getD w 7 0) (getD w 8 0) (getD w 9 0)
+      (eq-eqb (getD w 0 0) 1 e))
 
-  pub record-nothing : length w ≡ 10 → (getD w 0 0 ≡ 1 → ⊥) → isRecord w ≡ (eqb (getD w 0 0) 0 && areZero (getD w 1 0) (getD w 2 0) (getD w 3 0) (getD w 4 0) (getD w 5 0))
+  pub record-nothing : length w ≡ 10 → (getD w 0 0 ≡ 1 → ⊥)
+      → isRecord w ≡ (eqb (getD w 0 0) 0 && areZero (getD w 1 0) (getD w 2 0) (getD w 3 0) (getD w 4 0) (getD w 5 0))
   record-nothing long e =
       ap isRecord (sym (tab-getD w 10 0 long))
-      ∙ ten-nothing (getD w 0 0) (getD w 1 0) (getD w 2 0) (getD w 3 0) (getD w 4 0) (getD w 5 0) (getD w 6 0) (getD w 7 0) (getD w 8 0) (getD w 9 0) (ne-eqb (getD w 0 0) 1 e)
+      ∙ ten-nothing (getD w 0 0) (getD w 1 0) (getD w 2 0) (getD w 3 0) (getD w 4 0) (getD w 5 0) (getD w 6 0) (getD w 7 0) (getD w 8 0) (getD w 9 0)
+      (ne-eqb (getD w 0 0) 1 e)
 
 -- ---- as code writes them
 
@@ -94,14 +98,22 @@ pub config-put : (w : List ℕ) → isConfig w ≡ true → (a b c d e : ℕ) �
 config-put w long a b c d e =
     subst (λ (x : List ℕ). set (set (set (set (set x 0 a) 1 b) 2 c) 3 d) 4 e ≡ a ∷ b ∷ c ∷ d ∷ e ∷ []) (tab-getD w 5 0 (config-long w long)) refl
 
-ten-put : (w : List ℕ) → length w ≡ 10 → (a b c d e f g h i j : ℕ) → set (set (set (set (set (set (set (set (set (set w 0 a) 1 b) 2 c) 3 d) 4 e) 5 f) 6 g) 7 h) 8 i) 9 j ≡ a ∷ b ∷ c ∷ d ∷ e ∷ f ∷ g ∷ h ∷ i ∷ j ∷ []
+ten-put : (w : List ℕ) → length w ≡ 10 → (a b c d e f g h i j : ℕ)
+    → set (set (set (set (set (set (set (set (set (set w 0 a) 1 b) 2 c) 3 d) 4 e) 5 f) 6 g) 7 h) 8 i) 9 j ≡ a ∷ b ∷ c ∷ d ∷ e ∷ f ∷ g ∷ h ∷ i ∷ j ∷ []
 ten-put w long a b c d e f g h i j =
-    subst (λ (x : List ℕ). set (set (set (set (set (set (set (set (set (set x 0 a) 1 b) 2 c) 3 d) 4 e) 5 f) 6 g) 7 h) 8 i) 9 j ≡ a ∷ b ∷ c ∷ d ∷ e ∷ f ∷ g ∷ h ∷ i ∷ j ∷ []) (tab-getD w 10 0 long) refl
+    subst (λ (x : List ℕ). set (set (set (set (set (set (set (set (set (set x 0 a) 1 b) 2 c) 3 d) 4 e) 5 f) 6 g) 7 h) 8 i) 9 j ≡ a ∷ b ∷ c ∷ d ∷ e ∷ f ∷ g ∷ h
+    ∷ i ∷ j ∷ []) (tab-getD w 10 0 long) refl
 
 -- a record's words, written one by one
-pub record-put : (w : List ℕ) → length w ≡ 10 → (l : Previous) (k : Counters) (p : List ℕ) → p ≡ previousWords l → set (set (set (set (set (set (set (set (set (set w 0 (getD p 0 0)) 1 (getD p 1 0)) 2 (getD p 2 0)) 3 (getD p 3 0)) 4 (getD p 4 0)) 5 (getD p 5 0)) 6 (k .pairs)) 7 (k .«skipped_spread_pairs»)) 8 (k .«skipped_gap_pairs»)) 9 (k .«largest_move_half_ticks») ≡ recordWords l (countsOf k (tables [] [] []))
-record-put w long Nothing k p e = rw e (ten-put w long 0 0 0 0 0 0 (k .pairs) (k .«skipped_spread_pairs») (k .«skipped_gap_pairs») (k .«largest_move_half_ticks»))
-record-put w long (Quoted q) k p e = rw e (ten-put w long 1 (q .«timestamp_ms») (q .bid) (q .ask) (q .«bid_size») (q .«ask_size») (k .pairs) (k .«skipped_spread_pairs») (k .«skipped_gap_pairs») (k .«largest_move_half_ticks»))
+pub record-put : (w : List ℕ) → length w ≡ 10 → (l : Previous) (k : Counters) (p : List ℕ) → p ≡ previousWords l
+    → set (set
+    (set (set (set (set (set (set (set (set w 0 (getD p 0 0)) 1 (getD p 1 0)) 2 (getD p 2 0)) 3 (getD p 3 0)) 4 (getD p 4 0)) 5 (getD p 5 0)) 6 (k .pairs)) 7
+    (k .«skipped_spread_pairs»)) 8 (k .«skipped_gap_pairs»)) 9 (k .«largest_move_half_ticks») ≡ recordWords l (countsOf k (tables [] [] []))
+record-put w long Nothing k p e =
+    rw e (ten-put w long 0 0 0 0 0 0 (k .pairs) (k .«skipped_spread_pairs») (k .«skipped_gap_pairs») (k .«largest_move_half_ticks»))
+record-put w long (Quoted q) k p e = rw e
+    (ten-put w long 1 (q .«timestamp_ms») (q .bid) (q .ask) (q .«bid_size») (q .«ask_size») (k .pairs) (k .«skipped_spread_pairs») (k .«skipped_gap_pairs»)
+    (k .«largest_move_half_ticks»))
 
 -- ---- for the exported operations
 

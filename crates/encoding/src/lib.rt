@@ -9,8 +9,9 @@ ghost use mathlib.Core.Bool.{true};
 ghost use mathlib.Core.List.{[]};
 ghost use Prim.Native.Nat.{_≤_};
 ghost use lib.ListN.{length};
+ghost use Rattle.basics.specs.Loan.{given, final};
 ghost use Rattle.calibrator.specs.Record.{memory};
-ghost use Rattle.encoding.specs.Encoding.{isConfig, configOf, configWords, wordsOf, quoteOf, previousOf, countersOf, recordOf, isRecord, areZero, encoded};
+ghost use Rattle.encoding.specs.Encoding.{isConfig, configOf, configWords, wordsOf, previousOf, recordOf, isRecord, areZero, encoded};
 
 // What an exported operation answers to words that are no configuration or no record.
 pub const BAD_ENCODING: u64 = 100;
@@ -18,7 +19,7 @@ pub const BAD_ENCODING: u64 = 100;
 // The configuration of five words.
 pub fn config_of(w: &[u64]) -> MicroPriceConfig
     requires { ⌜ isConfig (now w) ≡ true ⌝ }
-    ensures { λ r. ⌜ r ≡ configOf (now (w .entry)) ⌝ }
+    ensures { λ r. ⌜ r ≡ configOf (given w) ⌝ }
 {
     MicroPriceConfig::new(w[0], w[1], w[2])
         .with_min_state_observations(w[3])
@@ -28,7 +29,7 @@ pub fn config_of(w: &[u64]) -> MicroPriceConfig
 // Writes the five words of a configuration.
 pub fn put_config(w: &mut [u64], c: MicroPriceConfig)
     requires { ⌜ isConfig (now w) ≡ true ⌝ }
-    ensures { λ _. ⌜ now (w .exit) ≡ configWords c ⌝ }
+    ensures { λ _. ⌜ final w ≡ configWords c ⌝ }
 {
     w[0] = c.tick_size;
     w[1] = c.imbalance_buckets;
@@ -46,7 +47,7 @@ fn are_zero(a: u64, b: u64, c: u64, d: u64, e: u64) -> bool
 
 // Whether the words are a record's.
 pub fn is_record(w: &[u64]) -> bool
-    ensures { λ r. ⌜ r ≡ isRecord (now (w .entry)) ⌝ }
+    ensures { λ r. ⌜ r ≡ isRecord (given w) ⌝ }
 {
     if w.len() != 10 {
         return false;
@@ -59,14 +60,14 @@ pub fn is_record(w: &[u64]) -> bool
 
 // Whether the words are a configuration's and a record's.
 pub fn is_encoded(c: &[u64], w: &[u64]) -> bool
-    ensures { λ r. ⌜ r ≡ encoded (now (c .entry)) (now (w .entry)) ⌝ }
+    ensures { λ r. ⌜ r ≡ encoded (given c) (given w) ⌝ }
 {
     (c.len() == 5) & is_record(w)
 }
 
 fn previous_of(w: &[u64]) -> Previous
     requires { ⌜ 6 ≤ length (now w) ⌝ }
-    ensures { λ r. ⌜ r ≡ previousOf (now (w .entry)) ⌝ }
+    ensures { λ r. ⌜ r ≡ previousOf (given w) ⌝ }
 {
     if w[0] != 1 {
         return Previous::Nothing;
@@ -83,7 +84,7 @@ fn previous_of(w: &[u64]) -> Previous
 // The record of ten words.
 pub fn record_of(w: &[u64]) -> Record
     requires { ⌜ isRecord (now w) ≡ true ⌝ }
-    ensures { λ r. ⌜ r ≡ recordOf (now (w .entry)) ⌝ }
+    ensures { λ r. ⌜ r ≡ recordOf (given w) ⌝ }
 {
     let previous = previous_of(w);
     let counters = Counters {
@@ -98,7 +99,7 @@ pub fn record_of(w: &[u64]) -> Record
 // Writes the ten words of a record.
 pub fn put_record(w: &mut [u64], rec: Record)
     requires { ⌜ length (now w) ≡ 10 ⌝ }
-    ensures { λ _. ⌜ now (w .exit) ≡ wordsOf (memory rec [] [] []) ⌝ }
+    ensures { λ _. ⌜ final w ≡ wordsOf (memory rec [] [] []) ⌝ }
 {
     let previous = rec.previous;
     let p = layout::previous_words(previous);

@@ -1,6 +1,6 @@
 -- A count and its fit, by what the parts leave.
 use Prim.Native.Nat.{ℕ}
-use mathlib.Core.Path.{_≡_, refl, sym, ap, _∙_}
+use mathlib.Core.Path.{_≡_, sym, ap, _∙_}
 use mathlib.Core.Bool.{false}
 use mathlib.Core.List.{List}
 use lib.Ieee.{Float}
@@ -10,11 +10,11 @@ use Rattle.refusals.specs.declared.Refusal.{Refusal}
 use Rattle.config.specs.declared.MicroPriceConfig.{MicroPriceConfig}
 use Rattle.tally.specs.Rules.{Memory}
 use Rattle.calibrator.specs.Record.{Outcome, answered}
-use Rattle.calibrator.specs.Observe.{checkRoom, roomFor, fresh, made}
+use Rattle.calibrator.specs.Observe.{roomFor, fresh, made}
 use Rattle.calibrator.specs.declared.Previous.{Previous}
 use Rattle.recording.specs.Recording.{quotesOf, uneven}
 use Rattle.recording.specs.Observe.{RecordedOutcome, recordedAs, recorded, recordedOf}
-use Rattle.fit.specs.Fit.{FitOutcome, endFit, fitCounts}
+use Rattle.fit.specs.Fit.{endFit, fitCounts}
 use Rattle.evening.specs.Evening.{endEvening, countedBy, counted}
 use Rattle.evening.specs.declared.Evening.the-variants.{Fitted, Refused}
 

@@ -44,7 +44,10 @@ module _ (c : MicroPriceConfig) (w : List ℕ) (start end : ℕ) where
       → o ≡ counted c (recorded c (quotesOf part) 0 (fresh c)) model scratch
       → o ≡ calibrated c m w start end model scratch
   evening-is m model scratch part o fine is e =
-      let qs = handed-quotes w start end (window-is (length (m .counts .tables .stay)) (length (m .counts .tables .moved)) (length (m .counts .tables .totals)) (length scratch) (length model) fine) in
+      let qs = handed-quotes w start end
+      (window-is (length (m .counts .tables .stay)) (length (m .counts .tables .moved)) (length (m .counts .tables .totals)) (length scratch) (length model)
+      fine) in
       e
       ∙ ap (λ (qs : List TopOfBook). counted c (recorded c qs 0 (fresh c)) model scratch) (ap quotesOf is ∙ qs)
-      ∙ sym (ap (λ (k : Check). eveningUnless k m model scratch (counted c (recorded c (filter (inside start end) (quotesOf w)) 0 (fresh c)) model scratch)) fine)
+      ∙ sym (ap (λ (k : Check). eveningUnless k m model scratch (counted c (recorded c (filter (inside start end) (quotesOf w)) 0 (fresh c)) model scratch))
+      fine)

@@ -11,17 +11,18 @@ use refusals::Refusal;
 ghost use mathlib.Core.Path.{_≡_};
 ghost use mathlib.Core.Bool.{false};
 ghost use lib.ListN.{length};
+ghost use Rattle.basics.specs.Loan.{given, final};
 ghost use Rattle.refusals.specs.declared.Check.the-variants.{Fine};
-ghost use Rattle.calibrator.specs.Record.{memory};
+ghost use Rattle.calibrator.specs.Record.{came, remains};
 ghost use Rattle.calibrator.specs.Observe.{checkRoom, fresh};
 ghost use Rattle.recording.specs.Recording.{quotesOf, uneven};
 ghost use Rattle.recording.specs.Window.{checkWindow};
-ghost use Rattle.recording.specs.Observe.{recorded, endRecorded};
+ghost use Rattle.recording.specs.Observe.{recorded, recordedAs};
 ghost use Rattle.evening.specs.Evening.{checkLengths, endEvening, counted, calibrated};
 
 // 7, 14, 15.
 fn check_window(w: &[u64], start: u64, end: u64) -> Check
-    ensures { λ r. ⌜ r ≡ checkWindow (now (w .entry)) start end ⌝ }
+    ensures { λ r. ⌜ r ≡ checkWindow (given w) start end ⌝ }
 {
     match recording::window_of(w, start, end) {
         Window::Part(_) => Check::Fine,
@@ -41,7 +42,7 @@ fn check_evening(
     scratch: usize,
     model: usize,
 ) -> Check
-    ensures { λ r. ⌜ r ≡ checkLengths c (now (w .entry)) start end stay moved totals scratch model ⌝ }
+    ensures { λ r. ⌜ r ≡ checkLengths c (given w) start end stay moved totals scratch model ⌝ }
 {
     let window = check_window(w, start, end);
     let Check::Fine = window else {
@@ -67,7 +68,7 @@ fn count_part(
     part: &[u64],
 ) -> Recorded
     requires { ⌜ (checkRoom config (length (now stay)) (length (now moved)) (length (now «move_half_ticks»)) ≡ Fine) × (uneven (now part) ≡ false) ⌝ }
-    ensures { λ d. ⌜ endRecorded (d .answer) (d .invalid) (d .next) (now (stay .exit)) (now (moved .exit)) (now («move_half_ticks» .exit)) ≡ recorded config (quotesOf (now (part .entry))) 0 (fresh config) ⌝ }
+    ensures { λ d. ⌜ recordedAs (d .answer) (d .invalid) (remains (d .next) stay moved «move_half_ticks») ≡ recorded config (quotesOf (given part)) 0 (fresh config) ⌝ }
 {
     let new = calibrator::inner::new(rec, stay, moved, move_half_ticks, config);
     let begun = new.next;
@@ -86,7 +87,8 @@ fn count_and_fit(
     model: &mut [u64],
 ) -> EveningDone
     requires { ⌜ (checkRoom config (length (now stay)) (length (now moved)) (length (now «move_half_ticks»)) ≡ Fine) × (uneven (now part) ≡ false) ⌝ }
-    ensures { λ r. ⌜ endEvening (r .answer) (memory (r .next) (now (stay .exit)) (now (moved .exit)) (now («move_half_ticks» .exit))) (now (model .exit)) (now (scratch .exit)) ≡ counted config (recorded config (quotesOf (now (part .entry))) 0 (fresh config)) (now (model .entry)) (now (scratch .entry)) ⌝ }
+    ensures { λ r. ⌜ endEvening (r .answer) (remains (r .next) stay moved «move_half_ticks») (final model) (final scratch)
+        ≡ counted config (recorded config (quotesOf (given part)) 0 (fresh config)) (given model) (given scratch) ⌝ }
 {
     let done = count_part(rec, stay, moved, move_half_ticks, config, part);
     let observed = done.answer;
@@ -132,7 +134,8 @@ pub fn calibrate_micro_price(
     scratch: &mut [f64],
     model: &mut [u64],
 ) -> EveningDone
-    ensures { λ r. ⌜ endEvening (r .answer) (memory (r .next) (now (stay .exit)) (now (moved .exit)) (now («move_half_ticks» .exit))) (now (model .exit)) (now (scratch .exit)) ≡ calibrated config (memory rec (now (stay .entry)) (now (moved .entry)) (now («move_half_ticks» .entry))) (now (recording .entry)) start end (now (model .entry)) (now (scratch .entry)) ⌝ }
+    ensures { λ r. ⌜ endEvening (r .answer) (remains (r .next) stay moved «move_half_ticks») (final model) (final scratch)
+        ≡ calibrated config (came rec stay moved «move_half_ticks») (given recording) start end (given model) (given scratch) ⌝ }
 {
     let k = check_evening(
         recording,

@@ -7,7 +7,8 @@ use refusals::Refusal;
 pub mod inner;
 
 ghost use mathlib.Core.Path.{_≡_};
-ghost use Rattle.calibrator.specs.Record.{memory};
+ghost use Rattle.basics.specs.Loan.{given, final};
+ghost use Rattle.calibrator.specs.Record.{came, remains};
 ghost use Rattle.evening.specs.Evening.{endEvening, calibrated};
 
 // A fit's answer, nothing refused or 16 to 19, and the number of invalid quotes.
@@ -42,7 +43,8 @@ pub fn calibrate_micro_price(
     scratch: &mut [f64],
     model: &mut [u64],
 ) -> Evening
-    ensures { λ r. ⌜ endEvening r (memory (now (rec .exit)) (now (stay .exit)) (now (moved .exit)) (now («move_half_ticks» .exit))) (now (model .exit)) (now (scratch .exit)) ≡ calibrated config (memory (now (rec .entry)) (now (stay .entry)) (now (moved .entry)) (now («move_half_ticks» .entry))) (now (recording .entry)) start end (now (model .entry)) (now (scratch .entry)) ⌝ }
+    ensures { λ r. ⌜ endEvening r (remains (final rec) stay moved «move_half_ticks») (final model) (final scratch)
+        ≡ calibrated config (came (given rec) stay moved «move_half_ticks») (given recording) start end (given model) (given scratch) ⌝ }
 {
     let done = inner::calibrate_micro_price(
         *rec,

@@ -1,9 +1,11 @@
-// The evening program (document 01, "Marked and run"): what standard input holds goes to `report::evening_text`, and what that answers to standard output. Where a read or a write fails, a line on standard error says so; after a failed read nothing is written to standard output.
+// The evening program (document 01, "Marked and run"): what standard input holds goes to `report::evening_text`, and what that answers to standard output.
+// Where a read or a write fails, a line on standard error says so; after a failed read nothing is written to standard output.
 use libc::STDERR_FILENO;
 use libc::STDIN_FILENO;
 use libc::STDOUT_FILENO;
 ghost use mathlib.Core.Path.{_≡_};
 ghost use lib.ListN.{length};
+ghost use Rattle.basics.specs.Loan.{given};
 ghost use Rattle.evening_main.specs.Input.{Within};
 
 // What reading comes to: so many bytes, or a failure.
@@ -27,7 +29,7 @@ fn output_room() -> [u8; 4350]
 
 // One read; no bytes are the end of the input.
 fn read_some(room: &mut [u8]) -> Input
-    ensures { λ r. ⌜ Within (length (now (room .entry))) r ⌝ }
+    ensures { λ r. ⌜ Within (length (given room)) r ⌝ }
 {
     let got = libc::read(STDIN_FILENO, room);
     if got < 0 {
@@ -38,7 +40,7 @@ fn read_some(room: &mut [u8]) -> Input
 
 // Reads until the input ends, the room is full or a read fails.
 fn read_input(room: &mut [u8]) -> Input
-    ensures { λ r. ⌜ Within (length (now (room .entry))) r ⌝ }
+    ensures { λ r. ⌜ Within (length (given room)) r ⌝ }
 {
     let mut at: usize = 0;
     while at < room.len() {

@@ -17,7 +17,9 @@ use Rattle.encoding.proofs.Laws.{words-back, encoded-known}
 use Rattle.exports.specs.Counting.{ofOutcome, newWords, observeWords}
 
 module _ (w s m : List ℕ) (t : List ℤ) where
-  outcome-kept : (b : Bool) → (b ≡ true → isRecord w ≡ true) → (k : Check) (after : Memory Previous) → let x = cond b (ofOutcome (answered k (memory (recordOf w) s m t) after)) (lent badEncoding w s m t) in (x .answer ≡ 0 → ⊥) → x ≡ lent (x .answer) w s m t
+  outcome-kept : (b : Bool) → (b ≡ true → isRecord w ≡ true) → (k : Check) (after : Memory Previous)
+      → let x =
+      cond b (ofOutcome (answered k (memory (recordOf w) s m t) after)) (lent badEncoding w s m t) in (x .answer ≡ 0 → ⊥) → x ≡ lent (x .answer) w s m t
   outcome-kept false e k after h = refl
   outcome-kept true e Fine after h = absurd (h refl)
   outcome-kept true e (Refused r) after h = λ j. lent (numberOf r) (words-back w (e refl) s m t j) s m t
@@ -29,7 +31,8 @@ module _ (c w s m : List ℕ) (t : List ℤ) where
   pub new-unchanged : (newWords c w s m t .answer ≡ 0 → ⊥) → newWords c w s m t ≡ lent (newWords c w s m t .answer) w s m t
   new-unchanged = outcome-kept w s m t (encoded c w) known (roomFor (configOf c) (memory (recordOf w) s m t)) (fresh (configOf c))
 
-  pub observe-unchanged : (q : TopOfBook) → (observeWords c w s m t q .answer ≡ 0 → ⊥) → observeWords c w s m t q ≡ lent (observeWords c w s m t q .answer) w s m t
+  pub observe-unchanged : (q : TopOfBook) → (observeWords c w s m t q .answer ≡ 0 → ⊥)
+      → observeWords c w s m t q ≡ lent (observeWords c w s m t q .answer) w s m t
   observe-unchanged q =
       let d = configOf c in
       let before = memory (recordOf w) s m t in

@@ -4,13 +4,14 @@ use encoding::BAD_ENCODING;
 use quotes::TopOfBook;
 use refusals::Check;
 ghost use mathlib.Core.Path.{_≡_};
+ghost use Rattle.basics.specs.Loan.{given, final};
 ghost use Rattle.encoding.specs.Encoding.{lent, quote};
 ghost use Rattle.exports.specs.Counting.{validateWords, newWords, observeWords};
 
 // Whether a configuration is valid: 0 or 1.
 #[no_mangle]
 pub extern "C" fn micro_price_validate(config: &[u64]) -> u64
-    ensures { λ n. ⌜ n ≡ validateWords (now (config .entry)) ⌝ }
+    ensures { λ n. ⌜ n ≡ validateWords (given config) ⌝ }
 {
     if config.len() != 5 {
         return BAD_ENCODING;
@@ -27,7 +28,7 @@ pub extern "C" fn micro_price_new(
     moved: &mut [u64],
     move_half_ticks: &mut [i64],
 ) -> u64
-    ensures { λ n. ⌜ lent n (now (rec .exit)) (now (stay .exit)) (now (moved .exit)) (now («move_half_ticks» .exit)) ≡ newWords (now (config .entry)) (now (rec .entry)) (now (stay .entry)) (now (moved .entry)) (now («move_half_ticks» .entry)) ⌝ }
+    ensures { λ n. ⌜ lent n (final rec) (final stay) (final moved) (final «move_half_ticks») ≡ newWords (given config) (given rec) (given stay) (given moved) (given «move_half_ticks») ⌝ }
 {
     if !encoding::is_encoded(config, rec) {
         return BAD_ENCODING;
@@ -59,7 +60,8 @@ pub extern "C" fn micro_price_observe(
     bid_size: u64,
     ask_size: u64,
 ) -> u64
-    ensures { λ n. ⌜ lent n (now (rec .exit)) (now (stay .exit)) (now (moved .exit)) (now («move_half_ticks» .exit)) ≡ observeWords (now (config .entry)) (now (rec .entry)) (now (stay .entry)) (now (moved .entry)) (now («move_half_ticks» .entry)) (quote «timestamp_ms» bid ask «bid_size» «ask_size») ⌝ }
+    ensures { λ n. ⌜ lent n (final rec) (final stay) (final moved) (final «move_half_ticks»)
+        ≡ observeWords (given config) (given rec) (given stay) (given moved) (given «move_half_ticks») (quote «timestamp_ms» bid ask «bid_size» «ask_size») ⌝ }
 {
     if !encoding::is_encoded(config, rec) {
         return BAD_ENCODING;

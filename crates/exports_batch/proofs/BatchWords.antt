@@ -3,10 +3,10 @@ use Prim.Native.Nat.{ℕ}
 use mathlib.Core.Path.{_≡_, refl, _∙_, ap, transport}
 use mathlib.Core.Bool.{Bool, true, false, cond}
 use mathlib.Core.List.{List, []}
-use native.Mathlib.Omega.{arith}
 use lib.Ieee.{Float}
 use lib.IntN.{ℤ}
 use lib.ListN.{length}
+use Rattle.basics.proofs.Tests.{zero-not-one}
 use Rattle.config.specs.declared.MicroPriceConfig.{MicroPriceConfig}
 use Rattle.calibrator.specs.Record.{memory}
 use Rattle.calibrator.specs.declared.Record.{Record}
@@ -21,8 +21,10 @@ use Rattle.exports_batch.specs.Batch.{lentEvening, eveningNumber, invali
 
 -- ---- the evening
 
-module _ (c : List ℕ) (d : MicroPriceConfig) (decoded : d ≡ configOf c) (w : List ℕ) (r : Record) (told : r ≡ recordOf w) (e : encoded c w ≡ true) (s m : List ℕ) (t : List ℤ) (model : List ℕ) (scratch : List Float) where
-  module _ (recording : List ℕ) (start end invalid : ℕ) (n : ℕ) (answer : Evening) (next : Record) (words stay moved : List ℕ) (totals : List ℤ) (after : List ℕ) (zeroed : List Float) (counted : ℕ) where
+module _ (c : List ℕ) (d : MicroPriceConfig) (decoded : d ≡ configOf c) (w : List ℕ) (r : Record) (told : r ≡ recordOf w) (e : encoded c w ≡ true)
+    (s m : List ℕ) (t : List ℤ) (model : List ℕ) (scratch : List Float) where
+  module _ (recording : List ℕ) (start end invalid : ℕ) (n : ℕ) (answer : Evening) (next : Record) (words stay moved : List ℕ) (totals : List ℤ)
+      (after : List ℕ) (zeroed : List Float) (counted : ℕ) where
     pub evening-words :
         n ≡ eveningNumber answer →
         words ≡ wordsOf (memory next [] [] []) →
@@ -37,31 +39,44 @@ module _ (c : List ℕ) (d : MicroPriceConfig) (decoded : d ≡ configOf c) (w :
 -- ---- the replay
 
 -- words that are not encoded
-pub replay-refused : (c w s m : List ℕ) (t : List ℤ) (calls room numbers : List ℕ) → encoded c w ≡ false → PromisedWords c w s m t calls room numbers (lentReplay numbers room (lent badEncoding w s m t))
+pub replay-refused : (c w s m : List ℕ) (t : List ℤ) (calls room numbers : List ℕ) → encoded c w ≡ false
+    → PromisedWords c w s m t calls room numbers (lentReplay numbers room (lent badEncoding w s m t))
 replay-refused c w s m t calls room numbers e =
-    record { run-is = rw e; history-is = λ h own. absurd (let z : _≡_ {A = ℕ} 0 1 = cc in omega arith) }
+    record { run-is = rw e; history-is = λ h own. absurd (zero-not-one cc) }
 
 -- words that are encoded, with the record and the configuration of them
 module _ (c w s m : List ℕ) (t : List ℤ) (e : encoded c w ≡ true) (r : Record) (told : r ≡ recordOf w) (d : MicroPriceConfig) (decoded : d ≡ configOf c) where
-  pub replay-words : (calls room numbers : List ℕ) (x : Replay) → Promised d (site r s m t room) calls numbers x → (n : ℕ) → n ≡ replayedNumber (x .answer) → (w′ : List ℕ) → w′ ≡ wordsOf (x .after .memory) → PromisedWords c w s m t calls room numbers (lentReplay (x .numbers) (x .after .room) (lent n w′ (x .after .memory .counts .tables .stay) (x .after .memory .counts .tables .moved) (x .after .memory .counts .tables .totals)))
+  pub replay-words : (calls room numbers : List ℕ) (x : Replay) → Promised d (site r s m t room) calls numbers x → (n : ℕ) → n ≡ replayedNumber (x .answer)
+      → (w′ : List ℕ) → w′ ≡ wordsOf (x .after .memory)
+      → PromisedWords c w s m t calls room numbers
+      (lentReplay (x .numbers) (x .after .room)
+      (lent n w′ (x .after .memory .counts .tables .stay) (x .after .memory .counts .tables .moved) (x .after .memory .counts .tables .totals)))
   replay-words calls room numbers x promised n number w′ written =
-      let p : Promised (configOf c) (site (recordOf w) s m t room) calls numbers x = transport (λ j. Promised (decoded j) (site (told j) s m t room) calls numbers x) promised in
-      let same : _ ≡ ofReplay x = (λ j. lentReplay (x .numbers) (x .after .room) (lent (number j) (written j) (x .after .memory .counts .tables .stay) (x .after .memory .counts .tables .moved) (x .after .memory .counts .tables .totals))) in
+      let p : Promised (configOf c) (site (recordOf w) s m t room) calls numbers x =
+      transport (λ j. Promised (decoded j) (site (told j) s m t room) calls numbers x) promised in
+      let same : _ ≡ ofReplay x =
+      (λ j. lentReplay (x .numbers) (x .after .room)
+      (lent (number j) (written j) (x .after .memory .counts .tables .stay) (x .after .memory .counts .tables .moved)
+      (x .after .memory .counts .tables .totals))) in
       record {
         run-is = same ∙ ap ofReplay (p .run-is) ∙ chosen _ e;
         history-is = λ _ own. same ∙ ap ofReplay (p .history-is own);
       }
 
 module _ (w s m : List ℕ) (t : List ℤ) where
-  replay-kept : (room numbers : List ℕ) (b i : Bool) → (b ≡ true → isRecord w ≡ true) → (ran : Replay) → ran .answer ≡ Done → let x = cond b (ofReplay (cond i ran (replay BadEncoding numbers (site (recordOf w) s m t room)))) (lentReplay numbers room (lent badEncoding w s m t)) in (x .rest .answer ≡ 0 → ⊥) → x ≡ lentReplay numbers room (lent (x .rest .answer) w s m t)
+  replay-kept : (room numbers : List ℕ) (b i : Bool) → (b ≡ true → isRecord w ≡ true) → (ran : Replay) → ran .answer ≡ Done
+      → let x = cond b (ofReplay (cond i ran (replay BadEncoding numbers (site (recordOf w) s m t room))))
+      (lentReplay numbers room (lent badEncoding w s m t)) in (x .rest .answer ≡ 0 → ⊥) → x ≡ lentReplay numbers room (lent (x .rest .answer) w s m t)
   replay-kept room numbers false i e ran d h = refl
   replay-kept room numbers true true e ran d h = absurd (h (ap replayedNumber d))
   replay-kept room numbers true false e ran d h = λ j. lentReplay numbers room (lent badEncoding (words-back w (e refl) s m t j) s m t)
 
 -- a replay that answers another number than 0 leaves all lent memory as it was
 module _ (c w s m : List ℕ) (t : List ℤ) where
-  pub replay-unchanged : (calls room numbers : List ℕ) → (replayWords c w s m t calls room numbers .rest .answer ≡ 0 → ⊥) → replayWords c w s m t calls room numbers ≡ lentReplay numbers room (lent (replayWords c w s m t calls room numbers .rest .answer) w s m t)
+  pub replay-unchanged : (calls room numbers : List ℕ) → (replayWords c w s m t calls room numbers .rest .answer ≡ 0 → ⊥)
+      → replayWords c w s m t calls room numbers ≡ lentReplay numbers room (lent (replayWords c w s m t calls room numbers .rest .answer) w s m t)
   replay-unchanged calls room numbers =
       let x = site (recordOf w) s m t room in
       let d = configOf c in
-      replay-kept w s m t room numbers (encoded c w) (wellCoded (length room) (length numbers) calls) (λ h. encoded-known c w h .1) (replayRun d x calls (run d (x .memory) (callsFrom d calls 0 (length numbers) x))) refl
+      replay-kept w s m t room numbers (encoded c w) (wellCoded (length room) (length numbers) calls) (λ h. encoded-known c w h .1)
+      (replayRun d x calls (run d (x .memory) (callsFrom d calls 0 (length numbers) x))) refl

@@ -1,4 +1,5 @@
--- What the exported evening and replay answer and leave in the memory that they are lent. Words that are not encoded are answered with badEncoding and change nothing; else it is the operation's own definition, in numbers.
+-- What the exported evening and replay answer and leave in the memory that they are lent. Words that are not encoded are answered with badEncoding and change
+-- nothing; else it is the operation's own definition, in numbers.
 use Prim.Native.Nat.{ℕ}
 use mathlib.Core.Path.{_≡_}
 use mathlib.Core.Bool.{true, cond}
@@ -54,7 +55,8 @@ invalidAfter (Evening.Refused r) invalid = invalid
 
 abbrev pub ofEvening : EveningOutcome → ℕ → LentEvening
 ofEvening o invalid =
-    lentEvening (eveningNumber (o .answer)) (wordsOf (o .left)) (o .left .counts .tables .stay) (o .left .counts .tables .moved) (o .left .counts .tables .totals) (o .model) (o .scratch) (invalidAfter (o .answer) invalid)
+    lentEvening (eveningNumber (o .answer)) (wordsOf (o .left)) (o .left .counts .tables .stay) (o .left .counts .tables .moved)
+    (o .left .counts .tables .totals) (o .model) (o .scratch) (invalidAfter (o .answer) invalid)
 
 abbrev pub calibrateWords : List ℕ → List ℕ → List ℕ → List ℕ → List ℤ → List ℕ → ℕ → ℕ → List ℕ → List Float → ℕ → LentEvening
 calibrateWords c w s m t recording start end model scratch invalid =

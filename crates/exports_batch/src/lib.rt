@@ -4,12 +4,13 @@ use encoding::BAD_ENCODING;
 use evening::Evening;
 use replay::Replayed;
 ghost use mathlib.Core.Path.{_≡_};
+ghost use Rattle.basics.specs.Loan.{given, final};
 ghost use Rattle.encoding.specs.Encoding.{lent};
 ghost use Rattle.exports_batch.specs.Batch.{lentEvening, eveningNumber, invalidAfter, calibrateWords, lentReplay, replayedNumber, PromisedWords};
 
 // An evening's answer as a number; with a fit's answer the number of invalid quotes is written.
 fn put_invalid(answer: Evening, invalid: &mut u64) -> u64
-    ensures { λ n. ⌜ (n ≡ eveningNumber answer) × (now (invalid .exit) ≡ invalidAfter answer (now (invalid .entry))) ⌝ }
+    ensures { λ n. ⌜ (n ≡ eveningNumber answer) × (final invalid ≡ invalidAfter answer (given invalid)) ⌝ }
 {
     match answer {
         Evening::Fitted(d) => {
@@ -36,7 +37,8 @@ pub extern "C" fn micro_price_calibrate(
     model: &mut [u64],
     invalid: &mut u64,
 ) -> u64
-    ensures { λ n. ⌜ lentEvening n (now (rec .exit)) (now (stay .exit)) (now (moved .exit)) (now («move_half_ticks» .exit)) (now (model .exit)) (now (scratch .exit)) (now (invalid .exit)) ≡ calibrateWords (now (config .entry)) (now (rec .entry)) (now (stay .entry)) (now (moved .entry)) (now («move_half_ticks» .entry)) (now (recording .entry)) start end (now (model .entry)) (now (scratch .entry)) (now (invalid .entry)) ⌝ }
+    ensures { λ n. ⌜ lentEvening n (final rec) (final stay) (final moved) (final «move_half_ticks») (final model) (final scratch) (final invalid)
+        ≡ calibrateWords (given config) (given rec) (given stay) (given moved) (given «move_half_ticks») (given recording) start end (given model) (given scratch) (given invalid) ⌝ }
 {
     if !encoding::is_encoded(config, rec) {
         return BAD_ENCODING;
@@ -79,7 +81,8 @@ pub extern "C" fn micro_price_replay(
     room: &mut [u8],
     answers: &mut [u64],
 ) -> u64
-    ensures { λ n. ⌜ PromisedWords (now (config .entry)) (now (rec .entry)) (now (stay .entry)) (now (moved .entry)) (now («move_half_ticks» .entry)) (now (calls .entry)) (now (room .entry)) (now (answers .entry)) (lentReplay (now (answers .exit)) (now (room .exit)) (lent n (now (rec .exit)) (now (stay .exit)) (now (moved .exit)) (now («move_half_ticks» .exit)))) ⌝ }
+    ensures { λ n. ⌜ PromisedWords (given config) (given rec) (given stay) (given moved) (given «move_half_ticks») (given calls) (given room) (given answers)
+        (lentReplay (final answers) (final room) (lent n (final rec) (final stay) (final moved) (final «move_half_ticks»))) ⌝ }
 {
     if !encoding::is_encoded(config, rec) {
         return BAD_ENCODING;

@@ -16,8 +16,10 @@ use Rattle.fit.specs.Fit.{endFit, fitCounts}
 use Rattle.exports_fit.specs.Fits.{lentFit, ofFit, fitWords}
 
 -- words that are encoded, with the configuration and the record of them
-module _ (c : List ℕ) (d : MicroPriceConfig) (decoded : d ≡ configOf c) (w : List ℕ) (r : Record) (told : r ≡ recordOf w) (e : encoded c w ≡ true) (s m : List ℕ) (t : List ℤ) (model : List ℕ) (scratch : List Float) where
-  pub fit-words : (n : ℕ) (k : Check) (after : List ℕ) (zeroed : List Float) → n ≡ checkNumber k → endFit k after zeroed ≡ fitCounts d (memory r s m t) model scratch → lentFit n after zeroed ≡ fitWords c w s m t model scratch
+module _ (c : List ℕ) (d : MicroPriceConfig) (decoded : d ≡ configOf c) (w : List ℕ) (r : Record) (told : r ≡ recordOf w) (e : encoded c w ≡ true)
+    (s m : List ℕ) (t : List ℤ) (model : List ℕ) (scratch : List Float) where
+  pub fit-words : (n : ℕ) (k : Check) (after : List ℕ) (zeroed : List Float) → n ≡ checkNumber k
+      → endFit k after zeroed ≡ fitCounts d (memory r s m t) model scratch → lentFit n after zeroed ≡ fitWords c w s m t model scratch
   fit-words n k after zeroed numbered found =
       ap (λ n. lentFit n after zeroed) numbered
       ∙ ap ofFit (found ∙ (λ j. fitCounts (decoded j) (memory (told j) s m t) model scratch))

@@ -2,6 +2,7 @@
 use encoding::BAD_ENCODING;
 use recording::Window;
 ghost use mathlib.Core.Path.{_≡_};
+ghost use Rattle.basics.specs.Loan.{given, final};
 ghost use Rattle.exports_fit.specs.Fits.{lentFit, fitWords, lentEnds, windowWords};
 
 // Fits the model: writes a row of seven words for each state.
@@ -15,7 +16,7 @@ pub extern "C" fn micro_price_fit_counts(
     scratch: &mut [f64],
     model: &mut [u64],
 ) -> u64
-    ensures { λ n. ⌜ lentFit n (now (model .exit)) (now (scratch .exit)) ≡ fitWords (now (config .entry)) (now (rec .entry)) (now (stay .entry)) (now (moved .entry)) (now («move_half_ticks» .entry)) (now (model .entry)) (now (scratch .entry)) ⌝ }
+    ensures { λ n. ⌜ lentFit n (final model) (final scratch) ≡ fitWords (given config) (given rec) (given stay) (given moved) (given «move_half_ticks») (given model) (given scratch) ⌝ }
 {
     if !encoding::is_encoded(config, rec) {
         return BAD_ENCODING;
@@ -41,7 +42,7 @@ pub extern "C" fn micro_price_window_of(
     first: &mut u64,
     past: &mut u64,
 ) -> u64
-    ensures { λ n. ⌜ lentEnds n (now (first .exit)) (now (past .exit)) ≡ windowWords (now (recording .entry)) start end (now (first .entry)) (now (past .entry)) ⌝ }
+    ensures { λ n. ⌜ lentEnds n (final first) (final past) ≡ windowWords (given recording) start end (given first) (given past) ⌝ }
 {
     let found = recording::window_of(recording, start, end);
     match found {

@@ -15,7 +15,9 @@ use Rattle.exports_image.specs.Images.{lentOut, ofSaved, saveWords, lent
 
 -- words that are encoded, with the record of them
 module _ (c w s m : List ℕ) (t : List ℤ) (e : encoded c w ≡ true) (r : Record) (told : r ≡ recordOf w) where
-  pub restore-words : (b : List ℕ) (k : Taken) → k ≡ restored b (memory r s m t) → (n : ℕ) → n ≡ restoredNumber (k .answer) → (c′ : List ℕ) → c′ ≡ configAfter (k .answer) c → (w′ : List ℕ) → w′ ≡ wordsOf (k .left) → lentBack c′ (lent n w′ (k .left .counts .tables .stay) (k .left .counts .tables .moved) (k .left .counts .tables .totals)) ≡ restoreWords b c w s m t
+  pub restore-words : (b : List ℕ) (k : Taken) → k ≡ restored b (memory r s m t) → (n : ℕ) → n ≡ restoredNumber (k .answer) → (c′ : List ℕ)
+      → c′ ≡ configAfter (k .answer) c → (w′ : List ℕ) → w′ ≡ wordsOf (k .left)
+      → lentBack c′ (lent n w′ (k .left .counts .tables .stay) (k .left .counts .tables .moved) (k .left .counts .tables .totals)) ≡ restoreWords b c w s m t
   restore-words b k done n number c′ set w′ written =
       (λ j. lentBack (set j) (lent (number j) (written j) (k .left .counts .tables .stay) (k .left .counts .tables .moved) (k .left .counts .tables .totals)))
       ∙ ap (λ k. ofTaken k c) (done ∙ (λ j. restored b (memory (told j) s m t)))
@@ -23,7 +25,8 @@ module _ (c w s m : List ℕ) (t : List ℤ) (e : encoded c w ≡ true) (r : Rec
 
   -- and the configuration of them
   module _ (d : MicroPriceConfig) (decoded : d ≡ configOf c) where
-    pub save-words : (out : List ℕ) (k : Saved) → k ≡ saved d (memory r s m t) out → (n : ℕ) → n ≡ checkNumber (k .answer) → lentOut n (k .output) ≡ saveWords c w s m t out
+    pub save-words : (out : List ℕ) (k : Saved) → k ≡ saved d (memory r s m t) out → (n : ℕ) → n ≡ checkNumber (k .answer)
+        → lentOut n (k .output) ≡ saveWords c w s m t out
     save-words out k done n number =
         ap (λ n. lentOut n (k .output)) number
         ∙ ap ofSaved (done ∙ (λ j. saved (decoded j) (memory (told j) s m t) out))

@@ -16,13 +16,16 @@ use Rattle.encoding.specs.Encoding.{configOf, recordOf, isRecord, encoded, badE
 use Rattle.encoding.proofs.Laws.{words-back, encoded-known}
 use Rattle.exports_image.specs.Images.{lentOut, ofSaved, saveWords, lentBack, ofTaken, restoreWords}
 
-save-kept : (b : Bool) (k : Check) (out written : List ℕ) → let x = cond b (ofSaved (savedUnless k out written)) (lentOut badEncoding out) in (x .answer ≡ 0 → ⊥) → x ≡ lentOut (x .answer) out
+save-kept : (b : Bool) (k : Check) (out written : List ℕ) → let x = cond b (ofSaved (savedUnless k out written)) (lentOut badEncoding out) in
+    (x .answer ≡ 0 → ⊥) → x ≡ lentOut (x .answer) out
 save-kept false k out written h = refl
 save-kept true Fine out written h = absurd (h refl)
 save-kept true (Refused r) out written h = refl
 
 module _ (w s m : List ℕ) (t : List ℤ) where
-  restore-kept : (c b : List ℕ) (i : Bool) → (i ≡ true → isRecord w ≡ true) → (k : Check) → let x = cond i (ofTaken (takenUnless k b (memory (recordOf w) s m t)) c) (lentBack c (lent badEncoding w s m t)) in (x .rest .answer ≡ 0 → ⊥) → x ≡ lentBack c (lent (x .rest .answer) w s m t)
+  restore-kept : (c b : List ℕ) (i : Bool) → (i ≡ true → isRecord w ≡ true) → (k : Check)
+      → let x = cond i (ofTaken (takenUnless k b (memory (recordOf w) s m t)) c) (lentBack c (lent badEncoding w s m t)) in
+      (x .rest .answer ≡ 0 → ⊥) → x ≡ lentBack c (lent (x .rest .answer) w s m t)
   restore-kept c b false e k h = refl
   restore-kept c b true e Fine h = absurd (h refl)
   restore-kept c b true e (Refused r) h = λ j. lentBack c (lent (numberOf r) (words-back w (e refl) s m t j) s m t)
@@ -36,5 +39,6 @@ module _ (c w s m : List ℕ) (t : List ℤ) where
       let before = memory (recordOf w) s m t in
       save-kept (encoded c w) (saveRefusal (configOf c) before (length out)) out (image (configOf c) before)
 
-  pub restore-unchanged : (b : List ℕ) → (restoreWords b c w s m t .rest .answer ≡ 0 → ⊥) → restoreWords b c w s m t ≡ lentBack c (lent (restoreWords b c w s m t .rest .answer) w s m t)
+  pub restore-unchanged : (b : List ℕ) → (restoreWords b c w s m t .rest .answer ≡ 0 → ⊥)
+      → restoreWords b c w s m t ≡ lentBack c (lent (restoreWords b c w s m t .rest .answer) w s m t)
   restore-unchanged b = restore-kept w s m t c b (encoded c w) known (restoreRefusal b (tables s m t))

@@ -3,6 +3,7 @@
 use encoding::BAD_ENCODING;
 use image::Restored;
 ghost use mathlib.Core.Path.{_≡_};
+ghost use Rattle.basics.specs.Loan.{given, final};
 ghost use Rattle.encoding.specs.Encoding.{lent};
 ghost use Rattle.exports_image.specs.Images.{lentOut, saveWords, lentBack, restoreWords};
 
@@ -16,7 +17,7 @@ pub extern "C" fn micro_price_save(
     move_half_ticks: &[i64],
     out: &mut [u8],
 ) -> u64
-    ensures { λ n. ⌜ lentOut n (now (out .exit)) ≡ saveWords (now (config .entry)) (now (rec .entry)) (now (stay .entry)) (now (moved .entry)) (now («move_half_ticks» .entry)) (now (out .entry)) ⌝ }
+    ensures { λ n. ⌜ lentOut n (final out) ≡ saveWords (given config) (given rec) (given stay) (given moved) (given «move_half_ticks») (given out) ⌝ }
 {
     if !encoding::is_encoded(config, rec) {
         return BAD_ENCODING;
@@ -42,7 +43,8 @@ pub extern "C" fn micro_price_restore(
     moved: &mut [u64],
     move_half_ticks: &mut [i64],
 ) -> u64
-    ensures { λ n. ⌜ lentBack (now (config .exit)) (lent n (now (rec .exit)) (now (stay .exit)) (now (moved .exit)) (now («move_half_ticks» .exit))) ≡ restoreWords (now (image .entry)) (now (config .entry)) (now (rec .entry)) (now (stay .entry)) (now (moved .entry)) (now («move_half_ticks» .entry)) ⌝ }
+    ensures { λ n. ⌜ lentBack (final config) (lent n (final rec) (final stay) (final moved) (final «move_half_ticks»))
+        ≡ restoreWords (given image) (given config) (given rec) (given stay) (given moved) (given «move_half_ticks») ⌝ }
 {
     if !encoding::is_encoded(config, rec) {
         return BAD_ENCODING;

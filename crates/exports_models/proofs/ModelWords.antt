@@ -9,7 +9,7 @@ use Rattle.basics.proofs.Lists.{tab-getD}
 use Rattle.refusals.specs.declared.Check.{Check}
 use Rattle.config.specs.declared.MicroPriceConfig.{MicroPriceConfig}
 use Rattle.quotes.specs.declared.TopOfBook.{TopOfBook}
-use Rattle.encoding.specs.Encoding.{isConfig, configOf, encoded, badEncoding}
+use Rattle.encoding.specs.Encoding.{isConfig, configOf, badEncoding}
 use Rattle.encoding.proofs.Laws.{chosen}
 use Rattle.model_check.specs.Check.{checkModel}
 use Rattle.signals.specs.Signal.{signalOf}
@@ -29,7 +29,8 @@ module _ (c : List ℕ) (d : MicroPriceConfig) (decoded : d ≡ configOf c) wher
   check-words model row k e found =
       ap (λ k. ofCheck k row) (found ∙ ap (λ d. checkModel d model) decoded) ∙ chosen (lentRow badEncoding row) e
 
-  pub signal-words : (model : List ℕ) (q : TopOfBook) (out : List ℕ) (row : ℕ) (s : Signalled) → isConfig c ≡ true → eqb (length out) 4 ≡ true → s ≡ signalOf d model q → ofSignalled s out row ≡ signalWords c model q out row
+  pub signal-words : (model : List ℕ) (q : TopOfBook) (out : List ℕ) (row : ℕ) (s : Signalled) → isConfig c ≡ true → eqb (length out) 4 ≡ true
+      → s ≡ signalOf d model q → ofSignalled s out row ≡ signalWords c model q out row
   signal-words model q out row s e f found =
       ap (λ s. ofSignalled s out row) (found ∙ ap (λ d. signalOf d model q) decoded)
       ∙ chosen (lentSignal badEncoding out row) (ap (λ b. b && eqb (length out) 4) e ∙ f)

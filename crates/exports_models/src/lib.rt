@@ -8,13 +8,14 @@ use signals::MicroPriceSignal;
 use signals::Signalled;
 ghost use mathlib.Core.Path.{_≡_};
 ghost use lib.ListN.{length};
+ghost use Rattle.basics.specs.Loan.{given, final};
 ghost use Rattle.refusals.specs.Refusals.{numberOf, rowOr};
 ghost use Rattle.encoding.specs.Encoding.{quote};
 ghost use Rattle.exports_models.specs.Models.{lentRow, checkModelWords, lentSignal, fourWords, signalWords};
 
 // A refusal's number; at 13 the row that it names is written.
 fn put_row(r: Refusal, row: &mut u64) -> u64
-    ensures { λ n. ⌜ (n ≡ numberOf r) × (now (row .exit) ≡ rowOr r (now (row .entry))) ⌝ }
+    ensures { λ n. ⌜ (n ≡ numberOf r) × (final row ≡ rowOr r (given row)) ⌝ }
 {
     *row = refusals::row_or(r, *row);
     refusals::number_of(r)
@@ -23,7 +24,7 @@ fn put_row(r: Refusal, row: &mut u64) -> u64
 // Refuses a model table that is not one of the configuration; at 13, row is the first bad row.
 #[no_mangle]
 pub extern "C" fn micro_price_check_model(config: &[u64], model: &[u64], row: &mut u64) -> u64
-    ensures { λ n. ⌜ lentRow n (now (row .exit)) ≡ checkModelWords (now (config .entry)) (now (model .entry)) (now (row .entry)) ⌝ }
+    ensures { λ n. ⌜ lentRow n (final row) ≡ checkModelWords (given config) (given model) (given row) ⌝ }
 {
     if config.len() != 5 {
         return BAD_ENCODING;
@@ -38,7 +39,7 @@ pub extern "C" fn micro_price_check_model(config: &[u64], model: &[u64], row: &m
 // Time, bid + ask, the bits of the adjustment, source.
 fn put_signal(out: &mut [u64], s: MicroPriceSignal)
     requires { ⌜ length (now out) ≡ 4 ⌝ }
-    ensures { λ _. ⌜ now (out .exit) ≡ fourWords s ⌝ }
+    ensures { λ _. ⌜ final out ≡ fourWords s ⌝ }
 {
     let source = s.source;
     out[0] = s.timestamp_ms;
@@ -60,7 +61,7 @@ pub extern "C" fn micro_price_signal(
     out: &mut [u64],
     row: &mut u64,
 ) -> u64
-    ensures { λ n. ⌜ lentSignal n (now (out .exit)) (now (row .exit)) ≡ signalWords (now (config .entry)) (now (model .entry)) (quote «timestamp_ms» bid ask «bid_size» «ask_size») (now (out .entry)) (now (row .entry)) ⌝ }
+    ensures { λ n. ⌜ lentSignal n (final out) (final row) ≡ signalWords (given config) (given model) (quote «timestamp_ms» bid ask «bid_size» «ask_size») (given out) (given row) ⌝ }
 {
     if config.len() != 5 {
         return BAD_ENCODING;

@@ -5,26 +5,22 @@ use mathlib.Core.Bool.{Bool, true, false, not, cond, _||_}
 use mathlib.Core.List.{List, _++_}
 use native.Mathlib.Omega.{arith}
 use lib.Dec.{eqb}
-use lib.IntN.{ℤ}
 use lib.ListN.{length, getD}
 use lib.Ieee.{Float}
-use Rattle.refusals.specs.Refusals.{refusal}
+use Rattle.basics.proofs.Tests.{zero-not-one}
 use Rattle.refusals.specs.declared.Check.{Check}
 use Rattle.refusals.specs.declared.Check.the-variants.{Fine, Refused}
 use Rattle.refusals.specs.declared.Refusal.{Refusal}
 use Rattle.refusals.specs.declared.Refusal.the-variants.{NoCalibratedState}
 use Rattle.model.specs.Rows.{rowWords}
-use Rattle.model.specs.Status.{statusNumber}
 use Rattle.model.specs.declared.StateEstimate.{StateEstimate}
 use Rattle.marking.specs.Below.{someTo}
 use Rattle.marking.specs.Marks.{Cells, observations, Marked, markOf}
 use Rattle.marking.proofs.Below.{some-none, some-step}
 use Rattle.marking.proofs.Decided.{marked-is}
-use Rattle.linear.specs.Flat.{from}
-use Rattle.series.specs.Scratch.{sumAt, shareAt, solvedG1}
 use Rattle.system.specs.Rows.{used}
 use Rattle.system.specs.Tables.{Marks}
-use Rattle.system.specs.Solution.{Solution, solution, unsolved, solutionOf, checkOf, Stands, StandsIn, SolvedIn}
+use Rattle.system.specs.Solution.{Solution, solution, unsolved, solutionOf, checkOf, StandsIn, SolvedIn}
 use Rattle.system.proofs.Filling.{used-number}
 use Rattle.estimates.specs.Estimates.{Given, estimateOf, estimate, representable}
 use Rattle.fit.specs.Fit.{Fit, fitted, refused, judgedRows, fitFrom, fitOf, tableOf, answerOf, modelAfter}
@@ -55,7 +51,8 @@ judged-same n a b h =
     pick false true = refl
     pick false false = refl
 
-    go : (s s′ t t′ : Bool) → s ≡ s′ → t ≡ t′ → answerOf (cond s (refused 19) (cond t (fitted a) (refused 16))) ≡ answerOf (cond s′ (refused 19) (cond t′ (fitted b) (refused 16)))
+    go : (s s′ t t′ : Bool) → s ≡ s′ → t ≡ t′
+        → answerOf (cond s (refused 19) (cond t (fitted a) (refused 16))) ≡ answerOf (cond s′ (refused 19) (cond t′ (fitted b) (refused 16)))
     go s s′ t t′ e f = pick s t ∙ (λ j. answerOf (cond (e j) (refused 19) (cond (f j) (fitted b) (refused 16))))
 
 -- rows that pass are the fit's
@@ -63,29 +60,33 @@ judged-passed : (n : ℕ) (rows : ℕ → StateEstimate) → Fine ≡ answerOf (
 unfolding judgedRows
 judged-passed n rows e = go (someTo n (λ i. not (representable (rows i)))) (someTo n (λ i. eqb (rows i .status) 0)) e
   where
-    go : (s t : Bool) → Fine ≡ answerOf (cond s (refused 19) (cond t (fitted rows) (refused 16))) → cond s (refused 19) (cond t (fitted rows) (refused 16)) ≡ fitted rows
-    go true t e = absurd (let z : _≡_ {A = ℕ} 0 1 = cc in omega arith)
+    go : (s t : Bool) → Fine ≡ answerOf (cond s (refused 19) (cond t (fitted rows) (refused 16)))
+        → cond s (refused 19) (cond t (fitted rows) (refused 16)) ≡ fitted rows
+    go true t e = absurd (zero-not-one cc)
     go false true e = refl
-    go false false e = absurd (let z : _≡_ {A = ℕ} 0 1 = cc in omega arith)
+    go false false e = absurd (zero-not-one cc)
 
 -- a refused fit leaves the table
 table-left : (n : ℕ) (f : Fit) (r : Refusal) (t : List ℕ) → Refused r ≡ answerOf f → t ≡ modelAfter n f t
-table-left n (fitted rows) r t e = absurd (let z : _≡_ {A = ℕ} 0 1 = cc in omega arith)
+table-left n (fitted rows) r t e = absurd (zero-not-one cc)
 table-left n (refused k) r t e = refl
 
-models-same : (n : ℕ) (a b : ℕ → StateEstimate) → ((k : ℕ) → k < n → a k ≡ b k) → (t : List ℕ) → modelAfter n (judgedRows n a) t ≡ modelAfter n (judgedRows n b) t
+models-same : (n : ℕ) (a b : ℕ → StateEstimate) → ((k : ℕ) → k < n → a k ≡ b k) → (t : List ℕ)
+    → modelAfter n (judgedRows n a) t ≡ modelAfter n (judgedRows n b) t
 unfolding judgedRows
 models-same n a b h t =
     go _ _ _ _
     (some-same n (λ k. not (representable (a k))) (λ k. not (representable (b k))) (λ k g. ap (λ e. not (representable e)) (h k g)))
     (some-same n (λ k. eqb (a k .status) 0) (λ k. eqb (b k .status) 0) (λ k g. ap (λ e. eqb (e .status) 0) (h k g)))
   where
-    pick : (x y : Bool) → modelAfter n (cond x (refused 19) (cond y (fitted a) (refused 16))) t ≡ modelAfter n (cond x (refused 19) (cond y (fitted b) (refused 16))) t
+    pick : (x y : Bool)
+        → modelAfter n (cond x (refused 19) (cond y (fitted a) (refused 16))) t ≡ modelAfter n (cond x (refused 19) (cond y (fitted b) (refused 16))) t
     pick true y = refl
     pick false true = table-same n a b h
     pick false false = refl
 
-    go : (x x′ y y′ : Bool) → x ≡ x′ → y ≡ y′ → modelAfter n (cond x (refused 19) (cond y (fitted a) (refused 16))) t ≡ modelAfter n (cond x′ (refused 19) (cond y′ (fitted b) (refused 16))) t
+    go : (x x′ y y′ : Bool) → x ≡ x′ → y ≡ y′
+        → modelAfter n (cond x (refused 19) (cond y (fitted a) (refused 16))) t ≡ modelAfter n (cond x′ (refused 19) (cond y′ (fitted b) (refused 16))) t
     go x x′ y y′ e f = pick x y ∙ (λ j. modelAfter n (cond (e j) (refused 19) (cond (f j) (fitted b) (refused 16))) t)
 
 -- ---- the marks
@@ -110,11 +111,12 @@ module _ (rounds moves : ℕ) (G : Given) (t : List ℕ) where
     unfolding fitOf
     goes = rw u
 
-    pub ends-unsolved : (r : Refusal) → Refused r ≡ checkOf (solutionOf rounds moves (G .cells) (G .total)) → FitEnds (G .cells .states) (fitOf rounds moves G) t (Refused r) t
+    pub ends-unsolved : (r : Refusal) → Refused r ≡ checkOf (solutionOf rounds moves (G .cells) (G .total))
+        → FitEnds (G .cells .states) (fitOf rounds moves G) t (Refused r) t
     ends-unsolved r e = rw goes (go (solutionOf rounds moves (G .cells) (G .total)) e)
       where
         go : (s : Solution) → Refused r ≡ checkOf s → FitEnds (G .cells .states) (fitFrom G s) t (Refused r) t
-        go (solution a b d) e = absurd (let z : _≡_ {A = ℕ} 0 1 = cc in omega arith)
+        go (solution a b d) e = absurd (zero-not-one cc)
         go (unsolved k) e = record { answers = e; models = refl }
 
     -- the rows in scratch are those of the solution
@@ -131,7 +133,7 @@ module _ (rounds moves : ℕ) (G : Given) (t : List ℕ) where
       solved-rows = go (solutionOf rounds moves (G .cells) (G .total)) goes (s .answers) (s .stands)
         where
           go : (x : Solution) → fitOf rounds moves G ≡ fitFrom G x → Fine ≡ checkOf x → StandsIn (G .cells .states) x l → Rows
-          go (unsolved k) f e st = absurd (let z : _≡_ {A = ℕ} 0 1 = cc in omega arith)
+          go (unsolved k) f e st = absurd (zero-not-one cc)
           go (solution G1 sum share) f e st =
               record {
                 rows = estimate G G1 sum share;
@@ -147,16 +149,19 @@ module _ (rounds moves : ℕ) (G : Given) (t : List ℕ) where
                     });
               }
 
-      pub ends-refused : (r : Refusal) → Refused r ≡ answerOf (judgedRows (G .cells .states) (rowsIn (G .cells .states) G l)) → FitEnds (G .cells .states) (fitOf rounds moves G) t (Refused r) t
+      pub ends-refused : (r : Refusal) → Refused r ≡ answerOf (judgedRows (G .cells .states) (rowsIn (G .cells .states) G l))
+          → FitEnds (G .cells .states) (fitOf rounds moves G) t (Refused r) t
       ends-refused r e =
           let R = solved-rows in
           let a : Refused r ≡ answerOf (fitOf rounds moves G) = e ∙ judged-same (G .cells .states) _ (R .rows) (R .same) ∙ ap answerOf (sym (R .fit-is)) in
           record { answers = a; models = table-left (G .cells .states) (fitOf rounds moves G) r t a }
 
-      pub ends-fitted : (m : List ℕ) → Fine ≡ answerOf (judgedRows (G .cells .states) (rowsIn (G .cells .states) G l)) → m ≡ tableOf (G .cells .states) (rowsIn (G .cells .states) G l) → FitEnds (G .cells .states) (fitOf rounds moves G) t Fine m
+      pub ends-fitted : (m : List ℕ) → Fine ≡ answerOf (judgedRows (G .cells .states) (rowsIn (G .cells .states) G l))
+          → m ≡ tableOf (G .cells .states) (rowsIn (G .cells .states) G l) → FitEnds (G .cells .states) (fitOf rounds moves G) t Fine m
       ends-fitted m e w =
           let R = solved-rows in
-          let f : fitOf rounds moves G ≡ fitted (R .rows) = R .fit-is ∙ judged-passed (G .cells .states) (R .rows) (e ∙ judged-same (G .cells .states) _ (R .rows) (R .same)) in
+          let f : fitOf rounds moves G ≡ fitted (R .rows) =
+          R .fit-is ∙ judged-passed (G .cells .states) (R .rows) (e ∙ judged-same (G .cells .states) _ (R .rows) (R .same)) in
           rw f (record { answers = refl; models = w ∙ table-same (G .cells .states) _ (R .rows) (R .same) })
 
 -- ---- another mirror that agrees below N
@@ -177,12 +182,16 @@ module _ (G : Given) (mirror : ℕ → ℕ) (same : (i : ℕ) → i < G .cells .
         share = share k;
       })
 
-  from-same : (x : Solution) (t : List ℕ) → (answerOf (fitFrom G x) ≡ answerOf (fitFrom (turned G mirror) x)) × (modelAfter (G .cells .states) (fitFrom G x) t ≡ modelAfter (G .cells .states) (fitFrom (turned G mirror) x) t)
+  from-same : (x : Solution) (t : List ℕ)
+      → (answerOf (fitFrom G x) ≡ answerOf (fitFrom (turned G mirror) x))
+      × (modelAfter (G .cells .states) (fitFrom G x) t ≡ modelAfter (G .cells .states) (fitFrom (turned G mirror) x) t)
   unfolding turned
   from-same (unsolved k) t = (refl, refl)
   from-same (solution G1 sum share) t = (judged-same _ _ _ (row-same G1 sum share), models-same _ _ _ (row-same G1 sum share) t)
 
-  pub ends-same : (rounds moves : ℕ) (t m : List ℕ) (r : Check) → FitEnds (G .cells .states) (fitOf rounds moves G) t r m → FitEnds (G .cells .states) (fitOf rounds moves (record { cells = G .cells; total = G .total; tick = G .tick; mirror = mirror; bucket = G .bucket; spread = G .spread })) t r m
+  pub ends-same : (rounds moves : ℕ) (t m : List ℕ) (r : Check) → FitEnds (G .cells .states) (fitOf rounds moves G) t r m
+      → FitEnds (G .cells .states)
+      (fitOf rounds moves (record { cells = G .cells; total = G .total; tick = G .tick; mirror = mirror; bucket = G .bucket; spread = G .spread })) t r m
   unfolding fitOf turned
   ends-same rounds moves t m r f =
       let x = solutionOf rounds moves (G .cells) (G .total) in
@@ -196,6 +205,7 @@ module _ (G : Given) (mirror : ℕ → ℕ) (same : (i : ℕ) → i < G .cells .
       pick-answers true a b e = e
       pick-answers false a b e = refl
 
-      pick-models : (u : Bool) (a b : Fit) → modelAfter (G .cells .states) a t ≡ modelAfter (G .cells .states) b t → modelAfter (G .cells .states) (cond u a (refused 16)) t ≡ modelAfter (G .cells .states) (cond u b (refused 16)) t
+      pick-models : (u : Bool) (a b : Fit) → modelAfter (G .cells .states) a t ≡ modelAfter (G .cells .states) b t
+          → modelAfter (G .cells .states) (cond u a (refused 16)) t ≡ modelAfter (G .cells .states) (cond u b (refused 16)) t
       pick-models true a b e = e
       pick-models false a b e = refl

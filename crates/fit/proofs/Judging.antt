@@ -1,8 +1,8 @@
 -- Rows judged one after another, and the table written one after another.
-use Prim.Native.Nat.{ℕ, zero, suc, _+_, _*_, _<_, _≤_}
+use Prim.Native.Nat.{ℕ, zero, suc, _+_, _*_, _<_}
 use mathlib.Core.Path.{_≡_, refl, sym, ap, _∙_}
-use mathlib.Core.Bool.{Bool, true, false, not, cond, _||_}
-use mathlib.Core.List.{List, [], _∷_, _++_}
+use mathlib.Core.Bool.{Bool, true, false, not, _||_}
+use mathlib.Core.List.{List}
 use native.Mathlib.Numerals.{add-one}
 use native.Mathlib.Omega.{arith}
 use lib.Dec.{eqb}
@@ -13,8 +13,6 @@ use Rattle.marking.specs.Below.{someTo}
 use Rattle.marking.proofs.Below.{some-at, some-step, some-more}
 use Rattle.model.specs.Rows.{rowWords}
 use Rattle.model.specs.declared.StateEstimate.{StateEstimate}
-use Rattle.refusals.specs.Refusals.{refusal}
-use Rattle.refusals.specs.declared.Check.{Check}
 use Rattle.refusals.specs.declared.Check.the-variants.{Fine, Refused}
 use Rattle.refusals.specs.declared.Refusal.the-variants.{NoCalibratedState, Unrepresentable}
 use Rattle.estimates.specs.Estimates.{representable}
@@ -32,7 +30,9 @@ module _ (n : ℕ) (rows : ℕ → StateEstimate) where
   seen-more i found e is s r =
       record {
         held = some-more i (λ k. not (representable (rows k))) (s .held) (ap not (ap representable (sym is) ∙ r));
-        told = (λ j. s .told j || eqb (is j .status) 0) ∙ sym (ap (λ j. someTo j (λ k. eqb (rows k .status) 0)) (add-one i) ∙ some-step i (λ k. eqb (rows k .status) 0));
+        told =
+            (λ j. s .told j || eqb (is j .status) 0)
+            ∙ sym (ap (λ j. someTo j (λ k. eqb (rows k .status) 0)) (add-one i) ∙ some-step i (λ k. eqb (rows k .status) 0));
       }
 
   pub judged-no : (i : ℕ) → i < n → representable (rows i) ≡ false → Refused Unrepresentable ≡ answerOf (judgedRows n rows)
@@ -54,7 +54,8 @@ length-table zero rows = refl
 length-table (suc n) rows = length-append (tableOf n rows) (rowWords (rows n)) ∙ omega (arith, length-table n rows)
 
 -- a row more
-pub table-more : (n i : ℕ) (rows : ℕ → StateEstimate) (e : StateEstimate) (l m : List ℕ) → e ≡ rows i → m ≡ sets l 0 (tableOf i rows) → sets m (7 * i) (rowWords e) ≡ sets l 0 (tableOf (i + 1) rows)
+pub table-more : (n i : ℕ) (rows : ℕ → StateEstimate) (e : StateEstimate) (l m : List ℕ) → e ≡ rows i → m ≡ sets l 0 (tableOf i rows)
+    → sets m (7 * i) (rowWords e) ≡ sets l 0 (tableOf (i + 1) rows)
 table-more n i rows e l m is-e is-m =
     (λ j. sets (is-m j) (7 * i) (rowWords (is-e j)))
     ∙ ap (λ k. sets (sets l 0 (tableOf i rows)) k (rowWords (rows i))) (let q : 7 * i ≡ 0 + length (tableOf i rows) = omega (arith, length-table i rows) in q)

@@ -89,7 +89,8 @@ limited-of c k e =
     record { cells-most = omega arith; totals-most = o .1 }
 
 -- 10: the cells equal their mirrors'
-pub mirrored-of : {c : MicroPriceConfig} {m : Memory Previous} {scratch model : ℕ} → Fittable c m scratch model → Mirrored (givenOf c (m .counts) .cells) (mirrorOf (c .«imbalance_buckets»))
+pub mirrored-of : {c : MicroPriceConfig} {m : Memory Previous} {scratch model : ℕ} → Fittable c m scratch model
+    → Mirrored (givenOf c (m .counts) .cells) (mirrorOf (c .«imbalance_buckets»))
 mirrored-of {c} {m} f =
     let n = c .«imbalance_buckets» in
     let some : 1 ≤ n = omega (arith, f .conf .n-least) in
@@ -116,22 +117,29 @@ mirrored-of {c} {m} f =
         let b = first-fine walk (refuseIf (not (isTwice (k .pairs) (k .tables))) 11) (a .1) in
         from-fine (checkState N mirror (k .tables)) 0 N (b .0) i (omega arith) (omega arith)
 
-    cells : (i j : ℕ) → i < N → j < N → (cellsAlike (k .tables .stay) (i * N + j) (mirror i * N + mirror j) ≡ true) × (cellsAlike (k .tables .moved) (i * N + j) (mirror i * N + mirror j) ≡ true)
+    cells : (i j : ℕ) → i < N → j < N
+        → (cellsAlike (k .tables .stay) (i * N + j) (mirror i * N + mirror j) ≡ true)
+        × (cellsAlike (k .tables .moved) (i * N + j) (mirror i * N + mirror j) ≡ true)
     cells i j hi hj =
-        let row = first-fine (refuseIf (not (totalMirrored (k .tables .totals) i (mirror i))) 9) (refuseIf (not (rowMirrored N mirror (k .tables) i)) 10) (walked i hi) .1 in
+        let row = first-fine (refuseIf (not (totalMirrored (k .tables .totals) i (mirror i))) 9) (refuseIf (not (rowMirrored N mirror (k .tables) i)) 10)
+        (walked i hi) .1 in
         both _ _ (all-at (cellMirrored N mirror (k .tables) i) 0 N j (not-false _ (if-fine _ 10 row)) (omega arith) (omega arith))
 
-pub exact-of : {c : MicroPriceConfig} {m : Memory Previous} {scratch model : ℕ} → Fittable c m scratch model → Exact (states c) (m .counts .tables .stay) (m .counts .tables .moved) (m .counts .tables .totals)
+pub exact-of : {c : MicroPriceConfig} {m : Memory Previous} {scratch model : ℕ} → Fittable c m scratch model
+    → Exact (states c) (m .counts .tables .stay) (m .counts .tables .moved) (m .counts .tables .totals)
 exact-of {c} {m} f =
     let l = limited-of c (m .counts) (f .mirrored) in
     record {
       few = f .conf .states-most;
       cells = record { stay-cells = f .stay-cells; moved-cells = f .moved-cells; cells-sum = l .cells-most };
       totals-long = f .totals-cells;
-      totals-exact = λ i h. total-exact (totalOf (m .counts .tables .totals) i) (none-at overTotal (pos 0) (m .counts .tables .totals) (l .totals-most) i (rw (f .totals-cells) h));
+      totals-exact =
+          λ i h. total-exact (totalOf (m .counts .tables .totals) i)
+          (none-at overTotal (pos 0) (m .counts .tables .totals) (l .totals-most) i (rw (f .totals-cells) h));
     }
 
-pub usable-of : {c : MicroPriceConfig} {m : Memory Previous} {scratch model : ℕ} → Fittable c m scratch model → (ms : List ℕ) → 256 ≤ length ms → ((i : ℕ) → i < states c → getD ms i 0 ≡ mirrorOf (c .«imbalance_buckets») i)
+pub usable-of : {c : MicroPriceConfig} {m : Memory Previous} {scratch model : ℕ} → Fittable c m scratch model → (ms : List ℕ) → 256 ≤ length ms
+    → ((i : ℕ) → i < states c → getD ms i 0 ≡ mirrorOf (c .«imbalance_buckets») i)
     → Usable (states c) (c .«imbalance_buckets») (c .«tick_size») (m .counts .tables .stay) (m .counts .tables .moved) ms
 usable-of {c} {m} f ms h e =
     let v = f .conf in
@@ -153,11 +161,15 @@ pub whole : (rounds moves : ℕ) (c : MicroPriceConfig) (m : Memory Previous) (m
     → n ≡ states c
     → fitRefusal c m (length scratch) (length model) ≡ Fine
     → ((i : ℕ) → i < states c → getD ms i 0 ≡ mirrorOf (c .«imbalance_buckets») i)
-    → FitEnds n (fitOf rounds moves (givenIn n (c .«imbalance_buckets») (c .«tick_size») (c .«min_state_observations») (m .counts .tables .stay) (m .counts .tables .moved) (m .counts .tables .totals) ms)) model r after
+    → FitEnds n
+    (fitOf rounds moves
+    (givenIn n (c .«imbalance_buckets») (c .«tick_size») (c .«min_state_observations») (m .counts .tables .stay) (m .counts .tables .moved)
+    (m .counts .tables .totals) ms)) model r after
     → left ≡ replicate (length scratch) posZero
     → endFit r after left ≡ fittedWith rounds moves c m model scratch
 whole rounds moves c m model after scratch left r n ms is-n fine same ends clean =
-    let G = givenIn (states c) (c .«imbalance_buckets») (c .«tick_size») (c .«min_state_observations») (m .counts .tables .stay) (m .counts .tables .moved) (m .counts .tables .totals) ms in
+    let G = givenIn (states c) (c .«imbalance_buckets») (c .«tick_size») (c .«min_state_observations») (m .counts .tables .stay) (m .counts .tables .moved)
+    (m .counts .tables .totals) ms in
     let f = ends-same G (mirrorOf (c .«imbalance_buckets»)) same rounds moves model after r (rw is-n at ends) in
     (λ j. endFit (f .answers j) (f .models j) (clean j))
     ∙ sym (ap (λ k. fitUnless k (states c) (fitOf rounds moves (givenOf c (m .counts))) model scratch) fine)

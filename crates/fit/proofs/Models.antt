@@ -1,4 +1,5 @@
--- The table that a fit writes: its rows are the fit's, those of mirrored states are opposite, and a Calibrated row lies inside the quotes. The numbers of a fit's refusals.
+-- The table that a fit writes: its rows are the fit's, those of mirrored states are opposite, and a Calibrated row lies inside the quotes. The numbers of a
+-- fit's refusals.
 use Prim.Native.Nat.{ℕ, zero, suc, _+_, _*_, _^_, _≤_, _<_}
 use mathlib.Core.Path.{_≡_, refl, sym, ap, subst, _∙_}
 use mathlib.Core.Bool.{Bool, true, false, not, cond}
@@ -16,6 +17,7 @@ use lib.Ieee.{Float, nan, inf, fin, binary64, up, down, lt, le, fits}
 use lib.Ieee.Bits.{ofBits-fits}
 use lib.Ieee.Fits.{down-pos, add-fits, cond-fits}
 use lib.Ieee.Scale.{finite}
+use Rattle.basics.proofs.Tests.{zero-not-one}
 use Rattle.floats.specs.Floats.{posZero, one, abs, half, halfSpread, clamp}
 use Rattle.floats.proofs.Signs.{abs-plus, plus-finite}
 use Rattle.floats.proofs.Whole.{half-exact}
@@ -71,7 +73,8 @@ clamp-fits x h =
     (cond-fits binary64 (lt one x) one x (ofBits-fits binary64 0x3ff0_0000_0000_0000) h)
 
 share-clamped : (n : ℕ) (B : ℕ → ℕ → Float) (F : ℕ → Float) (moves i : ℕ) → Clamped (fallbackWithinMoves rounded n B F (suc moves) i)
-share-clamped n B F moves i = record { of = shareAfter rounded n B F (suc moves) i; is = refl; fit = clamp-fits _ (unfold shareAfter in add-fits binary64 (F i) _) }
+share-clamped n B F moves i =
+    record { of = shareAfter rounded n B F (suc moves) i; is = refl; fit = clamp-fits _ (unfold shareAfter in add-fits binary64 (F i) _) }
 
 summed-kept : (G1 share : ℕ → Float) (s : Series Float) → ((i : ℕ) → Clamped (share i)) → Kept (summedUp G1 share s)
 summed-kept G1 share (converged sum term) h = h
@@ -83,7 +86,8 @@ solution-kept rounds moves C total = go (gaussJordan rounded (C .states) (system
   where
     go : (a : Answer Float) → Kept (solutionFrom (C .states) rounds (suc moves) a)
     go (singular A) = (omega arith, omega arith)
-    go (solved A) = summed-kept (λ i. A i (C .states)) _ (sumSeries rounded (C .states) (λ i j. A i (C .states + 2 + j)) (λ i. A i (C .states)) rounds) (λ i. share-clamped (C .states) (λ i j. A i (C .states + 2 + j)) (λ i. A i (C .states + 1)) moves i)
+    go (solved A) = summed-kept (λ i. A i (C .states)) _ (sumSeries rounded (C .states) (λ i j. A i (C .states + 2 + j)) (λ i. A i (C .states)) rounds)
+        (λ i. share-clamped (C .states) (λ i j. A i (C .states + 2 + j)) (λ i. A i (C .states + 1)) moves i)
 
 -- ---- the fit
 
@@ -126,7 +130,8 @@ judged-ended G G1 sum share h = go (someTo N (λ i. not (representable (rows i))
 
 fit-ended : (rounds moves : ℕ) (G : Given) → Ended G (fitOf rounds (suc moves) G)
 unfolding fitOf
-fit-ended rounds moves G = go (someTo (G .cells .states) (used (G .cells))) (solutionOf rounds (suc moves) (G .cells) (G .total)) (solution-kept rounds moves (G .cells) (G .total))
+fit-ended rounds moves G =
+    go (someTo (G .cells .states) (used (G .cells))) (solutionOf rounds (suc moves) (G .cells) (G .total)) (solution-kept rounds moves (G .cells) (G .total))
   where
     go : (u : Bool) (s : Solution) → Kept s → Ended G (cond u (fitFrom G s) (refused 16))
     go true (solution G1 sum share) k = judged-ended G G1 sum share k
@@ -162,13 +167,14 @@ table-rows n rows h i b =
 
 fine-parts : (k : Check) (n : ℕ) (f : Fit) (t : List ℕ) (l : List Float) → fitUnless k n f t l .answer ≡ Fine → (k ≡ Fine) × (answerOf f ≡ Fine)
 fine-parts Fine n f t l e = (refl, e)
-fine-parts (Refused r) n f t l e = absurd (let z : _≡_ {A = ℕ} 0 1 = cc in omega arith)
+fine-parts (Refused r) n f t l e = absurd (zero-not-one cc)
 
 found-of : (G : Given) (f : Fit) → Ended G f → answerOf f ≡ Fine → Found G f
 found-of G (fitted rows) e a = e
-found-of G (refused k) e a = absurd (let z : _≡_ {A = ℕ} 0 1 = cc in omega arith)
+found-of G (refused k) e a = absurd (zero-not-one cc)
 
-inside-of : (c : MicroPriceConfig) (i : ℕ) (x : Float) → c .«tick_size» * spreadIn (c .«imbalance_buckets») i < 2 ^ 53 → T (finite x) → T (le (abs x) (halfSpread (c .«tick_size») (spreadIn (c .«imbalance_buckets») i))) → Inside c i x
+inside-of : (c : MicroPriceConfig) (i : ℕ) (x : Float) → c .«tick_size» * spreadIn (c .«imbalance_buckets») i < 2 ^ 53 → T (finite x)
+    → T (le (abs x) (halfSpread (c .«tick_size») (spreadIn (c .«imbalance_buckets») i))) → Inside c i x
 unfolding abs
 inside-of c i nan w f h = absurd f
 inside-of c i (inf s) w f h = absurd f
@@ -241,7 +247,9 @@ module _ (rounds moves : ℕ) (c : MicroPriceConfig) (m : Memory Previous) (t₀
           share-least = s .0;
           share-most = s .1;
           share-fallback = row-fallback G (found .G1) (found .sum) (found .share) i;
-          outside = λ e. subst (λ (z : Float). T (lt (halfSpread (c .«tick_size») (spreadIn (c .«imbalance_buckets») i)) z)) (sym (abs-plus (rows i .adjustment))) (subst T (sym (row-outside G (found .G1) (found .sum) (found .share) i e)) tt);
+          outside =
+              λ e. subst (λ (z : Float). T (lt (halfSpread (c .«tick_size») (spreadIn (c .«imbalance_buckets») i)) z)) (sym (abs-plus (rows i .adjustment)))
+              (subst T (sym (row-outside G (found .G1) (found .sum) (found .share) i e)) tt);
         })
 
     pub table-long : length table ≡ 7 * states c
@@ -267,16 +275,18 @@ module _ (rounds moves : ℕ) (c : MicroPriceConfig) (m : Memory Previous) (t₀
         let width = c .«tick_size» * spreadIn (c .«imbalance_buckets») i in
         let w : width < 2 ^ 53 = omega (arith, width-most c (known .conf) i h) in
         let e = rows-are i h in
-        let k = row-inside G (found .G1) (found .sum) (found .share) i (found .held i h) (value-finite (half width) false width 2 (half-exact width w)) (sym (ap (λ (x : StateEstimate). x .status) e) ∙ z) in
+        let k = row-inside G (found .G1) (found .sum) (found .share) i (found .held i h) (value-finite (half width) false width 2 (half-exact width w))
+        (sym (ap (λ (x : StateEstimate). x .status) e) ∙ z) in
         inside-of c i (rowAt table i .adjustment) w (row-of i h .final-finite)
         (subst (λ (x : Float). T (le x (half width))) (sym (ap (λ (x : StateEstimate). abs (x .adjustment)) e ∙ abs-plus (rows i .adjustment))) k)
 
   -- refused after the checks: 16 to 19
-  pub fit-numbers : (r : Refusal) → fitRefusal c m (length l) (length t₀) ≡ Fine → fittedWith rounds (suc moves) c m t₀ l .answer ≡ Refused r → (16 ≤ numberOf r) × (numberOf r ≤ 19)
+  pub fit-numbers : (r : Refusal) → fitRefusal c m (length l) (length t₀) ≡ Fine → fittedWith rounds (suc moves) c m t₀ l .answer ≡ Refused r
+      → (16 ≤ numberOf r) × (numberOf r ≤ 19)
   fit-numbers r k e = go fit (fit-ended rounds moves G) (ap (λ (x : Check). fitUnless x (states c) fit t₀ l .answer) (sym k) ∙ e)
     where
       go : (f : Fit) → Ended G f → answerOf f ≡ Refused r → (16 ≤ numberOf r) × (numberOf r ≤ 19)
-      go (fitted rows) d a = absurd (let z : _≡_ {A = ℕ} 0 1 = cc in omega arith)
+      go (fitted rows) d a = absurd (zero-not-one cc)
       go (refused n) d a =
           let q : refusal n ≡ r = cc in
           subst (λ (x : Refusal). (16 ≤ numberOf x) × (numberOf x ≤ 19)) q d

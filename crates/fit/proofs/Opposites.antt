@@ -215,7 +215,8 @@ module _ (G : Given) (G1 sum share : ℕ → Float) where
   row-known i = (refl, refl, judged-known (markOf (G .cells) i) _ _)
 
   -- its share, written with zero as plus zero
-  pub row-share : (i : ℕ) (y : Float) → share i ≡ clamp y → T (fits binary64 (share i)) → representable (row i) ≡ true → Share (plusZero (row i .«fallback_within_moves»))
+  pub row-share : (i : ℕ) (y : Float) → share i ≡ clamp y → T (fits binary64 (share i)) → representable (row i) ≡ true
+      → Share (plusZero (row i .«fallback_within_moves»))
   unfolding estimateOf
   row-share i y is t r = go (isCalibrated (markOf (G .cells) i)) (finite-of (row i) r .share)
     where
@@ -236,14 +237,17 @@ module _ (G : Given) (G1 sum share : ℕ → Float) where
       judged-over (markOf (G .cells) i) (halfSpread (G .tick) (G .spread i)) (adjusted (G .tick) (sum i) (sum (G .mirror i))) (mark-other (G .cells) i) e
 
   -- a Calibrated state's adjustment is in size at most half the spread
-  pub row-inside : (i : ℕ) → representable (row i) ≡ true → T (finite (halfSpread (G .tick) (G .spread i))) → row i .status ≡ 0 → T (le (abs (row i .adjustment)) (halfSpread (G .tick) (G .spread i)))
+  pub row-inside : (i : ℕ) → representable (row i) ≡ true → T (finite (halfSpread (G .tick) (G .spread i))) → row i .status ≡ 0
+      → T (le (abs (row i .adjustment)) (halfSpread (G .tick) (G .spread i)))
   unfolding estimateOf
   row-inside i r p z =
       let half = halfSpread (G .tick) (G .spread i) in
       let x = adjusted (G .tick) (sum i) (sum (G .mirror i)) in
-      not-below half (abs x) (finite-no-nan half p) (finite-no-nan (abs x) (subst T (sym (abs-finite x)) (finite-of (row i) r .final))) (judged-within (markOf (G .cells) i) half x z)
+      not-below half (abs x) (finite-no-nan half p) (finite-no-nan (abs x) (subst T (sym (abs-finite x)) (finite-of (row i) r .final)))
+      (judged-within (markOf (G .cells) i) half x z)
 
-  module _ (M : Mirrored (G .cells) (G .mirror)) (p : T (finite (halfTick (G .tick)))) (i : ℕ) (h : i < G .cells .states) (kept : G .spread (G .mirror i) ≡ G .spread i) where
+  module _ (M : Mirrored (G .cells) (G .mirror)) (p : T (finite (halfTick (G .tick)))) (i : ℕ) (h : i < G .cells .states)
+      (kept : G .spread (G .mirror i) ≡ G .spread i) where
     abbrev j : ℕ
     j = G .mirror i
 
@@ -253,8 +257,11 @@ module _ (G : Given) (G1 sum share : ℕ → Float) where
     status-turned : row j .status ≡ row i .status
     unfolding estimateOf
     status-turned =
-        (λ d. statusNumber (judged (mark-mirrored (G .cells) (G .mirror) M i h d) (halfSpread (G .tick) (kept d)) (adjusted (G .tick) (sum j) (sum (M .mirror-twice i h d)))))
-        ∙ ap statusNumber (judged-turned (markOf (G .cells) i) (halfSpread (G .tick) (G .spread i)) (adjusted (G .tick) (sum i) (sum j)) (adjusted (G .tick) (sum j) (sum i)) (adjusted-size (G .tick) (sum i) (sum j) p))
+        (λ d. statusNumber
+        (judged (mark-mirrored (G .cells) (G .mirror) M i h d) (halfSpread (G .tick) (kept d)) (adjusted (G .tick) (sum j) (sum (M .mirror-twice i h d)))))
+        ∙ ap statusNumber
+        (judged-turned (markOf (G .cells) i) (halfSpread (G .tick) (G .spread i)) (adjusted (G .tick) (sum i) (sum j)) (adjusted (G .tick) (sum j) (sum i))
+        (adjusted-size (G .tick) (sum i) (sum j) p))
 
     pub rows-opposite : representable (row i) ≡ true → RowsOpposite (plusZeros (row i)) (plusZeros (row j))
     unfolding estimateOf

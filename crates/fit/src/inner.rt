@@ -6,33 +6,29 @@ use model::StateEstimate;
 use refusals::Check;
 use refusals::Refusal;
 ghost use mathlib.Core.Path.{_≡_};
-ghost use mathlib.Core.Bool.{true, cond};
+ghost use mathlib.Core.Bool.{true};
 ghost use Prim.Native.Nat.{ℕ, _+_, _*_, _<_, _≤_};
 ghost use lib.Dec.{eqb};
 ghost use lib.IntN.{ℤ};
 ghost use lib.ListN.{length, getD, replicate};
 ghost use mathlib.Core.List.{List};
-ghost use lib.Seq.{sets};
-ghost use lib.Ieee.{Float};
-ghost use Rattle.floats.specs.Floats.{posZero, one};
-ghost use Rattle.config.specs.Configuration.{states};
-ghost use Rattle.model.specs.Status.{statusNumber};
-ghost use Rattle.model.specs.declared.StateStatus.{StateStatus};
+ghost use Rattle.basics.specs.Loan.{given, final};
+ghost use Rattle.floats.specs.Floats.{posZero};
 ghost use Rattle.marking.specs.Below.{someTo};
 ghost use Rattle.marking.specs.Marks.{cellsOf};
 ghost use Rattle.linear.specs.Flat.{from};
 ghost use Rattle.series.specs.Scratch.{sumAt, shareAt, solvedG1, Scratch};
-ghost use Rattle.system.specs.Rows.{isCalibrated, used};
+ghost use Rattle.system.specs.Rows.{used};
 ghost use Rattle.system.specs.Tables.{Exact, Marks};
-ghost use Rattle.calibrator.specs.Record.{memory};
-ghost use Rattle.estimates.specs.Estimates.{estimateOf, solvedAt, representable};
+ghost use Rattle.calibrator.specs.Record.{came};
+ghost use Rattle.estimates.specs.Estimates.{solvedAt};
 ghost use Rattle.fit.specs.Steps.{givenIn, Usable, rowsIn, FitEnds};
-ghost use Rattle.fit.specs.Fit.{judgedRows, fitOf, wrongRoom, fitRefusal, tableOf, answerOf, modelAfter, endFit, fittedWith, fitCounts};
+ghost use Rattle.fit.specs.Fit.{judgedRows, fitOf, wrongRoom, fitRefusal, tableOf, answerOf, endFit, fittedWith, fitCounts};
 
 // What scratch has for state i and its mirror m.
 fn solved_in(scratch: &[f64], n: usize, i: usize, m: usize) -> Solved
     requires { ⌜ Scratch n (now scratch) × (i < n) × (m < n) ⌝ }
-    ensures { λ r. ⌜ r ≡ solvedAt (λ k. m) (solvedG1 n (now (scratch .entry))) (from (sumAt n) (now (scratch .entry))) (from (shareAt n) (now (scratch .entry))) i ⌝ }
+    ensures { λ r. ⌜ r ≡ solvedAt (λ k. m) (solvedG1 n (given scratch)) (from (sumAt n) (given scratch)) (from (shareAt n) (given scratch)) i ⌝ }
 {
     let w = 2 * n + 2;
     let sum = n * w;
@@ -63,7 +59,8 @@ fn state_estimate(
     i: usize,
 ) -> StateEstimate
     requires { ⌜ Usable n buckets tick (now stay) (now moved) (now mirrors) × (n ≤ length (now marks)) × Scratch n (now scratch) × (i < n) ⌝ }
-    ensures { λ r. ⌜ ((least : ℕ) (totals : List ℤ) → Marks (cellsOf n least (now (stay .entry)) (now (moved .entry))) (now (marks .entry)) → r ≡ rowsIn n (givenIn n buckets tick least (now (stay .entry)) (now (moved .entry)) totals (now (mirrors .entry))) (now (scratch .entry)) i) ⌝ }
+    ensures { λ r. ⌜ ((least : ℕ) (totals : List ℤ) → Marks (cellsOf n least (given stay) (given moved)) (given marks)
+        → r ≡ rowsIn n (givenIn n buckets tick least (given stay) (given moved) totals (given mirrors)) (given scratch) i) ⌝ }
 {
     let solved = solved_in(scratch, n, i, mirrors[i]);
     let observed = marking::observations_of(stay, moved, n, i);
@@ -90,7 +87,8 @@ fn judge_estimates(
     scratch: &[f64],
 ) -> Check
     requires { ⌜ Usable n buckets tick (now stay) (now moved) (now mirrors) × (n ≤ length (now marks)) × Scratch n (now scratch) ⌝ }
-    ensures { λ r. ⌜ ((least : ℕ) (totals : List ℤ) → Marks (cellsOf n least (now (stay .entry)) (now (moved .entry))) (now (marks .entry)) → r ≡ answerOf (judgedRows n (rowsIn n (givenIn n buckets tick least (now (stay .entry)) (now (moved .entry)) totals (now (mirrors .entry))) (now (scratch .entry))))) ⌝ }
+    ensures { λ r. ⌜ ((least : ℕ) (totals : List ℤ) → Marks (cellsOf n least (given stay) (given moved)) (given marks)
+        → r ≡ answerOf (judgedRows n (rowsIn n (givenIn n buckets tick least (given stay) (given moved) totals (given mirrors)) (given scratch)))) ⌝ }
 {
     let mut found = false;
     let mut i: usize = 0;
@@ -121,7 +119,8 @@ fn write_estimates(
     model: &mut [u64],
 )
     requires { ⌜ Usable n buckets tick (now stay) (now moved) (now mirrors) × (n ≤ length (now marks)) × Scratch n (now scratch) × (length (now model) ≡ 7 * n) ⌝ }
-    ensures { λ _. ⌜ ((least : ℕ) (totals : List ℤ) → Marks (cellsOf n least (now (stay .entry)) (now (moved .entry))) (now (marks .entry)) → now (model .exit) ≡ tableOf n (rowsIn n (givenIn n buckets tick least (now (stay .entry)) (now (moved .entry)) totals (now (mirrors .entry))) (now (scratch .entry)))) ⌝ }
+    ensures { λ _. ⌜ ((least : ℕ) (totals : List ℤ) → Marks (cellsOf n least (given stay) (given moved)) (given marks)
+        → final model ≡ tableOf n (rowsIn n (givenIn n buckets tick least (given stay) (given moved) totals (given mirrors)) (given scratch))) ⌝ }
 {
     let mut i: usize = 0;
     while i < n {
@@ -134,7 +133,7 @@ fn write_estimates(
 // Whether a state is marked Calibrated.
 fn has_calibrated(marks: &[u64], n: usize) -> bool
     requires { ⌜ n ≤ length (now marks) ⌝ }
-    ensures { λ r. ⌜ r ≡ someTo n (λ i. eqb (getD (now (marks .entry)) i 0) 0) ⌝ }
+    ensures { λ r. ⌜ r ≡ someTo n (λ i. eqb (getD (given marks) i 0) 0) ⌝ }
 {
     let mut i: usize = 0;
     while i < n {
@@ -161,8 +160,10 @@ fn fit_marked(
     scratch: &mut [f64],
     model: &mut [u64],
 ) -> Check
-    requires { ⌜ Usable n buckets tick (now stay) (now moved) (now mirrors) × Exact n (now stay) (now moved) (now totals) × (n ≤ length (now marks)) × Scratch n (now scratch) × (length (now model) ≡ 7 * n) ⌝ }
-    ensures { λ r. ⌜ ((least : ℕ) → Marks (cellsOf n least (now (stay .entry)) (now (moved .entry))) (now (marks .entry)) → someTo n (used (cellsOf n least (now (stay .entry)) (now (moved .entry)))) ≡ true → FitEnds n (fitOf rounds moves (givenIn n buckets tick least (now (stay .entry)) (now (moved .entry)) (now (totals .entry)) (now (mirrors .entry)))) (now (model .entry)) r (now (model .exit))) ⌝ }
+    requires { ⌜ Usable n buckets tick (now stay) (now moved) (now mirrors) × Exact n (now stay) (now moved) (now totals)
+        × (n ≤ length (now marks)) × Scratch n (now scratch) × (length (now model) ≡ 7 * n) ⌝ }
+    ensures { λ r. ⌜ ((least : ℕ) → let C = cellsOf n least (given stay) (given moved) in Marks C (given marks) → someTo n (used C) ≡ true
+        → FitEnds n (fitOf rounds moves (givenIn n buckets tick least (given stay) (given moved) (given totals) (given mirrors))) (given model) r (final model)) ⌝ }
 {
     let solved = system::solve_system(stay, moved, totals, n, marks, rounds, moves, scratch);
     let Check::Fine = solved else {
@@ -202,7 +203,7 @@ fn fit_states(
     model: &mut [u64],
 ) -> Check
     requires { ⌜ Usable n buckets tick (now stay) (now moved) (now mirrors) × Exact n (now stay) (now moved) (now totals) × Scratch n (now scratch) × (length (now model) ≡ 7 * n) ⌝ }
-    ensures { λ r. ⌜ FitEnds n (fitOf rounds moves (givenIn n buckets tick least (now (stay .entry)) (now (moved .entry)) (now (totals .entry)) (now (mirrors .entry)))) (now (model .entry)) r (now (model .exit)) ⌝ }
+    ensures { λ r. ⌜ FitEnds n (fitOf rounds moves (givenIn n buckets tick least (given stay) (given moved) (given totals) (given mirrors))) (given model) r (final model) ⌝ }
 {
     let mut marks = [1u64; 256];
     marking::mark_no_price_move(stay, moved, n, least, &mut marks);
@@ -226,7 +227,7 @@ fn fit_states(
 }
 
 fn clear(scratch: &mut [f64])
-    ensures { λ r. ⌜ now (scratch .exit) ≡ replicate (length (now (scratch .entry))) posZero ⌝ }
+    ensures { λ r. ⌜ final scratch ≡ replicate (length (given scratch)) posZero ⌝ }
 {
     let mut i: usize = 0;
     while i < scratch.len() {
@@ -253,7 +254,7 @@ fn check_fit(
     scratch: usize,
     model: usize,
 ) -> Check
-    ensures { λ r. ⌜ r ≡ fitRefusal c (memory rec (now (stay .entry)) (now (moved .entry)) (now (totals .entry))) scratch model ⌝ }
+    ensures { λ r. ⌜ r ≡ fitRefusal c (came rec stay moved totals) scratch model ⌝ }
 {
     let room = calibrator::inner::check_room(c, stay.len(), moved.len(), totals.len());
     let Check::Fine = room else {
@@ -278,7 +279,7 @@ pub fn fit_counts_with(
     scratch: &mut [f64],
     model: &mut [u64],
 ) -> Check
-    ensures { λ r. ⌜ endFit r (now (model .exit)) (now (scratch .exit)) ≡ fittedWith rounds moves config (memory rec (now (stay .entry)) (now (moved .entry)) (now («move_half_ticks» .entry))) (now (model .entry)) (now (scratch .entry)) ⌝ }
+    ensures { λ r. ⌜ endFit r (final model) (final scratch) ≡ fittedWith rounds moves config (came rec stay moved «move_half_ticks») (given model) (given scratch) ⌝ }
 {
     let k = check_fit(
         rec,
@@ -322,7 +323,7 @@ pub fn fit_counts(
     scratch: &mut [f64],
     model: &mut [u64],
 ) -> Check
-    ensures { λ r. ⌜ endFit r (now (model .exit)) (now (scratch .exit)) ≡ fitCounts config (memory rec (now (stay .entry)) (now (moved .entry)) (now («move_half_ticks» .entry))) (now (model .entry)) (now (scratch .entry)) ⌝ }
+    ensures { λ r. ⌜ endFit r (final model) (final scratch) ≡ fitCounts config (came rec stay moved «move_half_ticks») (given model) (given scratch) ⌝ }
 {
     fit_counts_with(
         rec,

@@ -1,4 +1,5 @@
-// Fits the tables of the cases on standard input and prints each model or refusal. The input is tests/comparison/fit_cases_words.txt, and tests/comparison/make_fit_cases_stdout.sh says how the expected output is made.
+// Fits the tables of the cases on standard input and prints each model or refusal. The input is tests/comparison/fit_cases_words.txt, and
+// tests/comparison/make_fit_cases_stdout.sh says how the expected output is made.
 use cases::reading::word_at;
 use cases::showing::show;
 use cases::showing::show_before;
@@ -8,6 +9,7 @@ use libc::STDOUT_FILENO;
 use refusals::Check;
 ghost use Prim.Native.Nat.{_<_, _≤_};
 ghost use lib.ListN.{length};
+ghost use Rattle.basics.specs.Loan.{given};
 
 // The name at the beginning of a line, without the colon.
 fn show_name(text: &[u8], at: usize) {
@@ -112,7 +114,7 @@ fn run_case(words: &[u64]) {
 
 // Runs the case whose line begins at `at`. Answers where the next line begins.
 fn run(text: &[u8], at: usize) -> usize
-    ensures { λ r. ⌜ (at < length (now (text .entry)) → at < r) ⌝ }
+    ensures { λ r. ⌜ (at < length (given text) → at < r) ⌝ }
 {
     let mut words = [0; 512];
     let next = cases::reading::read_line(text, at, &mut words);

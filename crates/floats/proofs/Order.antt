@@ -147,7 +147,8 @@ le-trans-float (fin s m e) (fin t n d) (inf true) h k = absurd k
 le-trans-float (fin s m e) (fin t n d) (inf false) h k = tt
 le-trans-float (fin s m e) (fin t n d) (fin u p g) h k =
     sizes→le s u m p e g
-    (sle-trans s t u (m * up e) (n * up d) (p * up g) (down e) (down d) (down g) (down-pos e) (down-pos d) (down-pos g) (le→sizes s t m n e d h) (le→sizes t u n p d g k))
+    (sle-trans s t u (m * up e) (n * up d) (p * up g) (down e) (down d) (down g) (down-pos e) (down-pos d) (down-pos g) (le→sizes s t m n e d h)
+    (le→sizes t u n p d g k))
 
 sle-turn : (s t : Bool) (a b : ℕ) → SLe s a t b → SLe (not t) b (not s) a
 sle-turn false false a b h = omega arith
@@ -235,25 +236,30 @@ sum-is : (f : Format) (s : Bool) (a : ℕ) (t : Bool) (b c : ℕ) → sum f s a 
 unfolding sum
 sum-is f s a t b c = go (Bool·beq s t) (ltb a b)
   where
-    go : (p q : Bool) → cond p (round f s (a + b) c) (cond q (round f t (b - a) c) (round f (s && ltb b a) (a - b) c)) ≡ round f (cond p s (cond q t (s && ltb b a))) (cond p (a + b) (cond q (b - a) (a - b))) c
+    go : (p q : Bool)
+        → cond p (round f s (a + b) c) (cond q (round f t (b - a) c) (round f (s && ltb b a) (a - b) c)) ≡ round f (cond p s (cond q t (s && ltb b a)))
+        (cond p (a + b) (cond q (b - a) (a - b))) c
     go true q = refl
     go false true = refl
     go false false = refl
 
 -- what is above and below zero in a sum is what its operands have, but for what cancels
 sum-parts : (s : Bool) (a : ℕ) (t : Bool) (b : ℕ)
-    → above-part (sum-sign s a t b) (sum-size s a t b) + (below-part s a + below-part t b) ≡ above-part s a + above-part t b + below-part (sum-sign s a t b) (sum-size s a t b)
+    → above-part (sum-sign s a t b) (sum-size s a t b) + (below-part s a + below-part t b) ≡ above-part s a + above-part t b + below-part (sum-sign s a t b)
+    (sum-size s a t b)
 sum-parts true a true b = omega arith
 sum-parts false a false b = omega arith
 sum-parts true a false b = go (three a b)
   where
-    go : Three a b → above-part (sum-sign true a false b) (sum-size true a false b) + (a + 0) ≡ 0 + b + below-part (sum-sign true a false b) (sum-size true a false b)
+    go : Three a b
+        → above-part (sum-sign true a false b) (sum-size true a false b) + (a + 0) ≡ 0 + b + below-part (sum-sign true a false b) (sum-size true a false b)
     go (less h) = rw (lt-ltb a b h) (omega arith)
     go (same h) = rw (le-ltb a b (omega arith), le-ltb b a (omega arith)) (omega arith)
     go (more h) = rw (le-ltb a b (omega arith), lt-ltb b a h) (omega arith)
 sum-parts false a true b = go (three a b)
   where
-    go : Three a b → above-part (sum-sign false a true b) (sum-size false a true b) + (0 + b) ≡ a + 0 + below-part (sum-sign false a true b) (sum-size false a true b)
+    go : Three a b
+        → above-part (sum-sign false a true b) (sum-size false a true b) + (0 + b) ≡ a + 0 + below-part (sum-sign false a true b) (sum-size false a true b)
     go (less h) = rw (lt-ltb a b h) (omega arith)
     go (same h) = rw (le-ltb a b (omega arith)) (omega arith)
     go (more h) = rw (le-ltb a b (omega arith)) (omega arith)
@@ -272,10 +278,12 @@ sub-times a b k = mul-comm (a - b) k ∙ mul-sub k a b ∙ simp mul-comm
 
 scale-unlike : (f : Format) (s : Bool) (a b c k : ℕ) → 0 < c → 0 < k → Three a b → sum f s a (not s) b c ≡ sum f s (a * k) (not s) (b * k) (c * k)
 scale-unlike f s a b c k C K (less h) =
-    sum-less f s a b c h ∙ round-scale f (not s) (b - a) c k C K ∙ ap (λ (z : ℕ). round f (not s) z (c * k)) (sub-times b a k) ∙ sym (sum-less f s (a * k) (b * k) (c * k) (mul-lt-mul-of-pos-right h K))
+    sum-less f s a b c h ∙ round-scale f (not s) (b - a) c k C K ∙ ap (λ (z : ℕ). round f (not s) z (c * k)) (sub-times b a k)
+    ∙ sym (sum-less f s (a * k) (b * k) (c * k) (mul-lt-mul-of-pos-right h K))
 scale-unlike f s a b c k C K (same h) = sum-same f s a b c C h ∙ sym (sum-same f s (a * k) (b * k) (c * k) (mul-pos C K) (ap (λ (z : ℕ). z * k) h))
 scale-unlike f s a b c k C K (more h) =
-    sum-more f s a b c h ∙ round-scale f s (a - b) c k C K ∙ ap (λ (z : ℕ). round f s z (c * k)) (sub-times a b k) ∙ sym (sum-more f s (a * k) (b * k) (c * k) (mul-lt-mul-of-pos-right h K))
+    sum-more f s a b c h ∙ round-scale f s (a - b) c k C K ∙ ap (λ (z : ℕ). round f s z (c * k)) (sub-times a b k)
+    ∙ sym (sum-more f s (a * k) (b * k) (c * k) (mul-lt-mul-of-pos-right h K))
 
 scale-like : (f : Format) (s : Bool) (a b c k : ℕ) → 0 < c → 0 < k → sum f s a s b c ≡ sum f s (a * k) s (b * k) (c * k)
 scale-like f s a b c k C K =
@@ -315,4 +323,5 @@ add-mono f (fin s m e) (fin t n d) (fin u o g) p q r h =
     let k : SLe t (Y * down e * down g) u (Z * down e * down d) =
     rw (mul-right-comm Y (down e) (down g), mul-right-comm Z (down e) (down d)) (sle-scale t u (Y * down g) (Z * down d) (down e) (le→sizes t u n o d g h)) in
     rw (ey, ez, mul-right-comm X (down g) (down d), mul-right-comm (down e) (down g) (down d))
-    (sum-mono f s (X * down d * down g) t (Y * down e * down g) u (Z * down e * down d) (down e * down d * down g) (mul-pos (mul-pos (down-pos e) (down-pos d)) (down-pos g)) k)
+    (sum-mono f s (X * down d * down g) t (Y * down e * down g) u (Z * down e * down d) (down e * down d * down g)
+    (mul-pos (mul-pos (down-pos e) (down-pos d)) (down-pos g)) k)

@@ -65,11 +65,13 @@ odd-exp m n (negsuc k) (negsuc l) o p h =
 cross : (m n c a : ℕ) (e d : ℤ) → 0 < c → m * up e * c ≡ a * down e → n * up d * c ≡ a * down d → m * up e * down d ≡ n * up d * down e
 cross m n c a e d C h k =
     eq-of-mul-eq-mul-right c C (m * up e * down d) (n * up d * down e)
-    (mul-right-comm (m * up e) (down d) c ∙ ap (λ (x : ℕ). x * down d) h ∙ mul-right-comm a (down e) (down d) ∙ ap (λ (x : ℕ). x * down e) (sym k) ∙ mul-right-comm (n * up d) c (down e))
+    (mul-right-comm (m * up e) (down d) c ∙ ap (λ (x : ℕ). x * down d) h ∙ mul-right-comm a (down e) (down d) ∙ ap (λ (x : ℕ). x * down e) (sym k)
+    ∙ mul-right-comm (n * up d) c (down e))
 
 size-zero : (e : ℤ) (a c : ℕ) → 0 * up e * c ≡ a * down e → a ≡ 0
 size-zero e zero c h = refl
-size-zero e (suc a) c h = absurd (lt-irrefl 0 (subst (λ (x : ℕ). 0 < x) (sym h ∙ ap (λ (y : ℕ). y * c) (zero-mul (up e)) ∙ zero-mul c) (mul-pos (zero-lt-suc a) (down-pos e))))
+size-zero e (suc a) c h = absurd
+    (lt-irrefl 0 (subst (λ (x : ℕ). 0 < x) (sym h ∙ ap (λ (y : ℕ). y * c) (zero-mul (up e)) ∙ zero-mul c) (mul-pos (zero-lt-suc a) (down-pos e))))
 
 both-zero : (f : Format) (x y : Float) (s : Bool) (a c : ℕ) → 0 < c → T (fits f x) → T (fits f y) → HasValue x s a c → HasValue y s a c → a ≡ 0 → x ≡ y
 both-zero f x y s a c C p q v w z =
@@ -111,9 +113,11 @@ exact-down f s m k h =
     let le : suc k ≤ l = exp-low (suc k) l (h .fine) in
     let w : 2 ^ j * 2 ^ suc k ≡ 2 ^ l = sym (pow-add 2 j (suc k)) ∙ ap (λ (x : ℕ). 2 ^ x) (back l (suc k) le) in
     let p : m * 2 ^ j * 2 ^ suc k ≡ m * 2 ^ l = mul-assoc m (2 ^ j) (2 ^ suc k) ∙ ap (λ (x : ℕ). m * x) w in
-    let t : m * 2 ^ l < 2 ^ suc (emax f) * 2 ^ suc k * 2 ^ l = mul-lt-mul-of-pos-right (subst (λ (x : ℕ). x < 2 ^ suc (emax f) * 2 ^ suc k) (mul-one m) (h .under)) (pow-pos l) in
+    let t : m * 2 ^ l < 2 ^ suc (emax f) * 2 ^ suc k * 2 ^ l =
+    mul-lt-mul-of-pos-right (subst (λ (x : ℕ). x < 2 ^ suc (emax f) * 2 ^ suc k) (mul-one m) (h .under)) (pow-pos l) in
     let u : 2 ^ suc (emax f) * 2 ^ suc k * 2 ^ l ≡ 2 ^ (l + suc (emax f)) * 2 ^ suc k
-    = mul-right-comm (2 ^ suc (emax f)) (2 ^ suc k) (2 ^ l) ∙ ap (λ (x : ℕ). x * 2 ^ suc k) (mul-comm (2 ^ suc (emax f)) (2 ^ l) ∙ sym (pow-add 2 l (suc (emax f)))) in
+    = mul-right-comm (2 ^ suc (emax f)) (2 ^ suc k) (2 ^ l)
+    ∙ ap (λ (x : ℕ). x * 2 ^ suc k) (mul-comm (2 ^ suc (emax f)) (2 ^ l) ∙ sym (pow-add 2 l (suc (emax f)))) in
     round-exact f s (m * 1) (2 ^ suc k) m j (pow-pos (suc k)) (h .few)
     (lt-of-mul-lt-mul-right (2 ^ suc k) (subst (λ (x : ℕ). x < 2 ^ (l + suc (emax f)) * 2 ^ suc k) (sym p) (subst (λ (x : ℕ). m * 2 ^ l < x) u t)))
     (ap (λ (x : ℕ). x * 2 ^ l) (mul-one m) ∙ sym p)
@@ -125,18 +129,23 @@ round-own f s (suc m) (pos a) t =
     value-unique f (round f s (suc m * 2 ^ a) 1) (fin s (suc m) (pos a)) s (suc m * 2 ^ a) 1 (zero-lt-suc 0) (round-fits f s (suc m * 2 ^ a) 1) t
     (exact-up f s (suc m) a (held f s m (pos a) t)) (own-value s (suc m) (pos a))
 round-own f s (suc m) (negsuc k) t =
-    value-unique f (round f s (suc m * 1) (2 ^ suc k)) (fin s (suc m) (negsuc k)) s (suc m * 1) (2 ^ suc k) (pow-pos (suc k)) (round-fits f s (suc m * 1) (2 ^ suc k)) t
+    value-unique f (round f s (suc m * 1) (2 ^ suc k)) (fin s (suc m) (negsuc k)) s (suc m * 1) (2 ^ suc k) (pow-pos (suc k))
+    (round-fits f s (suc m * 1) (2 ^ suc k)) t
     (exact-down f s (suc m) k (held f s m (negsuc k) t)) (own-value s (suc m) (negsuc k))
 
 -- ---- what is at most a value of the format rounds to at most it, and so from below: ±a / c against ±n * 2 ^ d
-pub round-below : (f : Format) (s : Bool) (a c : ℕ) (t : Bool) (n : ℕ) (d : ℤ) → 0 < c → T (fits f (fin t n d)) → SLe s (a * down d) t (n * up d * c) → T (le (round f s a c) (fin t n d))
+pub round-below : (f : Format) (s : Bool) (a c : ℕ) (t : Bool) (n : ℕ) (d : ℤ) → 0 < c → T (fits f (fin t n d)) → SLe s (a * down d) t (n * up d * c)
+    → T (le (round f s a c) (fin t n d))
 round-below f s a c t n d C p h =
     let x : round f s a c ≡ round f s (a * down d) (c * down d) = round-scale f s a c (down d) C (down-pos d) in
-    let y : fin t n d ≡ round f t (n * up d * c) (c * down d) = sym (round-own f t n d p) ∙ round-scale f t (n * up d) (down d) c (down-pos d) C ∙ ap (λ (z : ℕ). round f t (n * up d * c) z) (mul-comm (down d) c) in
+    let y : fin t n d ≡ round f t (n * up d * c) (c * down d) =
+    sym (round-own f t n d p) ∙ round-scale f t (n * up d) (down d) c (down-pos d) C ∙ ap (λ (z : ℕ). round f t (n * up d * c) z) (mul-comm (down d) c) in
     rw (x, y) (round-smono f s t (a * down d) (n * up d * c) (c * down d) (mul-pos C (down-pos d)) h)
 
-pub round-above : (f : Format) (s : Bool) (a c : ℕ) (t : Bool) (n : ℕ) (d : ℤ) → 0 < c → T (fits f (fin t n d)) → SLe t (n * up d * c) s (a * down d) → T (le (fin t n d) (round f s a c))
+pub round-above : (f : Format) (s : Bool) (a c : ℕ) (t : Bool) (n : ℕ) (d : ℤ) → 0 < c → T (fits f (fin t n d)) → SLe t (n * up d * c) s (a * down d)
+    → T (le (fin t n d) (round f s a c))
 round-above f s a c t n d C p h =
     let x : round f s a c ≡ round f s (a * down d) (c * down d) = round-scale f s a c (down d) C (down-pos d) in
-    let y : fin t n d ≡ round f t (n * up d * c) (c * down d) = sym (round-own f t n d p) ∙ round-scale f t (n * up d) (down d) c (down-pos d) C ∙ ap (λ (z : ℕ). round f t (n * up d * c) z) (mul-comm (down d) c) in
+    let y : fin t n d ≡ round f t (n * up d * c) (c * down d) =
+    sym (round-own f t n d p) ∙ round-scale f t (n * up d) (down d) c (down-pos d) C ∙ ap (λ (z : ℕ). round f t (n * up d * c) z) (mul-comm (down d) c) in
     rw (x, y) (round-smono f t s (n * up d * c) (a * down d) (c * down d) (mul-pos C (down-pos d)) h)

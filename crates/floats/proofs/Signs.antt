@@ -1,4 +1,5 @@
--- Signs and the operations of IEEE 754: a product and a quotient turn with the sign of an operand, a difference turns where its operands are exchanged, x + (−x) is plus zero.
+-- Signs and the operations of IEEE 754: a product and a quotient turn with the sign of an operand, a difference turns where its operands are exchanged, x +
+-- (−x) is plus zero.
 use mathlib.Core.Path.{_≡_, refl, sym, ap, _∙_, subst}
 use mathlib.Core.Logic.{_⊎_, inl, inr}
 use mathlib.Core.Bool.{Bool, true, false, not, cond, Bool·not-not}
@@ -70,7 +71,9 @@ div-neg f (fin s m e) nan = refl
 div-neg f (fin s m e) (inf t) = ap (λ (b : Bool). fin b 0 (pos 0)) (unlike-not s t)
 div-neg f (fin s m e) (fin t n d) = rw (unlike-not s t) (go (eqb n 0) (eqb m 0))
   where
-    go : (p q : Bool) → cond p (cond q nan (inf (not (unlike s t)))) (round f (not (unlike s t)) (m * up e * down d) (n * up d * down e)) ≡ neg (cond p (cond q nan (inf (unlike s t))) (round f (unlike s t) (m * up e * down d) (n * up d * down e)))
+    go : (p q : Bool)
+        → cond p (cond q nan (inf (not (unlike s t)))) (round f (not (unlike s t)) (m * up e * down d) (n * up d * down e)) ≡ neg
+        (cond p (cond q nan (inf (unlike s t))) (round f (unlike s t) (m * up e * down d) (n * up d * down e)))
     go true true = refl
     go true false = refl
     go false q = sym (neg-round f (unlike s t) (m * up e * down d) (n * up d * down e))
@@ -234,7 +237,8 @@ plus-neg-plus (fin s zero e) = refl
 plus-neg-plus (fin s (suc m) e) = refl
 
 -- of two floats written with plus zero, one the other's negation, the sum is plus zero
-pub plus-sum-zero : (x y : Float) → T (fits binary64 x) → T (finite x) → plusZero y ≡ plusZero (neg x) → add binary64 (plusZero x) (plusZero y) ≡ fin false 0 (pos 0)
+pub plus-sum-zero : (x y : Float) → T (fits binary64 x) → T (finite x) → plusZero y ≡ plusZero (neg x)
+    → add binary64 (plusZero x) (plusZero y) ≡ fin false 0 (pos 0)
 unfolding plusZero neg
 plus-sum-zero nan y t p e = absurd p
 plus-sum-zero (inf s) y t p e = absurd p

@@ -23,7 +23,8 @@ use Rattle.floats.proofs.Whole.{half-exact}
 crossed : (X e g a c d : ℕ) → X * c ≡ a * e → X * g * (c * d) ≡ a * d * (e * g)
 crossed X e g a c d p = simp (mul-assoc, mul-comm, mul-left-comm) (simp (mul-assoc, mul-comm, mul-left-comm) at (ap (λ (z : ℕ). z * (g * d)) p))
 
-pub add-at : (f : Format) (x y : Float) (a c b d : ℕ) → 0 < c → 0 < d → HasValue x false a c → HasValue y false b d → add f x y ≡ round f false (a * d + b * c) (c * d)
+pub add-at : (f : Format) (x y : Float) (a c b d : ℕ) → 0 < c → 0 < d → HasValue x false a c → HasValue y false b d
+    → add f x y ≡ round f false (a * d + b * c) (c * d)
 unfolding add
 add-at f nan y a c b d C D v w = absurd v
 add-at f (inf s) y a c b d C D v w = absurd v
@@ -44,7 +45,8 @@ drop-sum : (f : Format) (a b c : ℕ) → b ≤ a → sum f false a true b c ≡
 unfolding sum
 drop-sum f a b c h = rw (le-ltb a b h)
 
-pub sub-at : (f : Format) (x y : Float) (a c b d : ℕ) → 0 < c → 0 < d → HasValue x false a c → HasValue y false b d → b * c ≤ a * d → add f x (neg y) ≡ round f false (a * d - b * c) (c * d)
+pub sub-at : (f : Format) (x y : Float) (a c b d : ℕ) → 0 < c → 0 < d → HasValue x false a c → HasValue y false b d → b * c ≤ a * d
+    → add f x (neg y) ≡ round f false (a * d - b * c) (c * d)
 unfolding add neg
 sub-at f nan y a c b d C D v w h = absurd v
 sub-at f (inf s) y a c b d C D v w h = absurd v
@@ -127,7 +129,8 @@ ask-is b a h k =
 bid-is : (b a : ℕ) → b ≤ a → b + a < 2 ^ 53 → add binary64 (half (b + a)) (neg (half (a - b))) ≡ fromInt (pos b)
 unfolding ofInt
 bid-is b a h k =
-    sub-at binary64 (half (b + a)) (half (a - b)) (b + a) 2 (a - b) 2 (zero-lt-suc 1) (zero-lt-suc 1) (half-exact (b + a) k) (half-exact (a - b) (omega arith)) (omega arith)
+    sub-at binary64 (half (b + a)) (half (a - b)) (b + a) 2 (a - b) 2 (zero-lt-suc 1) (zero-lt-suc 1) (half-exact (b + a) k) (half-exact (a - b) (omega arith))
+    (omega arith)
     ∙ round-same binary64 false ((b + a) * 2 - (a - b) * 2) 4 b 1 (zero-lt-suc 3) (zero-lt-suc 0) (omega arith)
 
 -- one price, inside the quotes

@@ -11,7 +11,7 @@ use lib.Pow.{pow-add}
 use lib.Ieee.{Float, nan, inf, fin, binary64, up, down, neg, add, sum, round, le, eq, fits, ofBits, toBits}
 use lib.Ieee.Fits.{up-pos, down-pos, and-l, and-r, round-fits, neg-fits}
 use lib.Ieee.Scale.{finite}
-use Rattle.basics.proofs.Tests.{le-or-lt}
+use Rattle.basics.proofs.Tests.{zero-not-one, le-or-lt}
 use Rattle.floats.specs.Floats.{posZero, plusZero, abs, minusZero}
 use Rattle.floats.proofs.Helpers.{plus-zero}
 use Rattle.floats.proofs.Order.{SLe, le→sizes}
@@ -25,8 +25,8 @@ smallest s = fin s 1 (negsuc 1073)
 
 zero-shape : (z : Float) → posZero ≡ plusZero z → (s : Bool) × (e : ℤ) × (z ≡ fin s 0 e)
 unfolding plusZero ofBits
-zero-shape nan p = absurd (let n : _≡_ {A = ℕ} 0 1 = cc in omega arith)
-zero-shape (inf s) p = absurd (let n : _≡_ {A = ℕ} 0 1 = cc in omega arith)
+zero-shape nan p = absurd (zero-not-one cc)
+zero-shape (inf s) p = absurd (zero-not-one cc)
 zero-shape (fin s zero e) p = (s, e, refl)
 zero-shape (fin s (suc m) e) p = absurd (let n : 0 ≡ suc m = cc in omega arith)
 
@@ -40,10 +40,12 @@ below-none true a b p z h = omega arith
 below-none false a b p z h = omega arith
 
 no-above : (s : Bool) (e : ℤ) → T (le (smallest false) (fin s 0 e)) → ⊥
-no-above s e h = above-none s (1 * 1 * down e) (0 * up e * 2 ^ 1074) (mul-pos (zero-lt-suc 0) (down-pos e)) (simp zero-mul) (le→sizes false s 1 0 (negsuc 1073) e h)
+no-above s e h =
+    above-none s (1 * 1 * down e) (0 * up e * 2 ^ 1074) (mul-pos (zero-lt-suc 0) (down-pos e)) (simp zero-mul) (le→sizes false s 1 0 (negsuc 1073) e h)
 
 no-below : (s : Bool) (e : ℤ) → T (le (fin s 0 e) (smallest true)) → ⊥
-no-below s e h = below-none s (1 * 1 * down e) (0 * up e * 2 ^ 1074) (mul-pos (zero-lt-suc 0) (down-pos e)) (simp zero-mul) (le→sizes s true 0 1 e (negsuc 1073) h)
+no-below s e h =
+    below-none s (1 * 1 * down e) (0 * up e * 2 ^ 1074) (mul-pos (zero-lt-suc 0) (down-pos e)) (simp zero-mul) (le→sizes s true 0 1 e (negsuc 1073) h)
 
 step-above : (c k : ℕ) → c ≤ k → SLe false (1 * 1 * c) false k
 step-above c k h = omega arith
@@ -60,10 +62,12 @@ steps-zero s k c C h z = go s refl
     go : (t : Bool) → s ≡ t → ⊥
     go false e =
         no-above (shape .0) (shape .1)
-        (subst (λ (x : Float). T (le (smallest false) x)) (ap (λ (u : Bool). round binary64 u k c) (sym e) ∙ shape .2) (round-above binary64 false k c false 1 (negsuc 1073) C (unfold fits in tt) (step-above c (k * 2 ^ 1074) h)))
+        (subst (λ (x : Float). T (le (smallest false) x)) (ap (λ (u : Bool). round binary64 u k c) (sym e) ∙ shape .2)
+        (round-above binary64 false k c false 1 (negsuc 1073) C (unfold fits in tt) (step-above c (k * 2 ^ 1074) h)))
     go true e =
         no-below (shape .0) (shape .1)
-        (subst (λ (x : Float). T (le x (smallest true))) (ap (λ (u : Bool). round binary64 u k c) (sym e) ∙ shape .2) (round-below binary64 true k c true 1 (negsuc 1073) C (unfold fits in tt) (step-below c (k * 2 ^ 1074) h)))
+        (subst (λ (x : Float). T (le x (smallest true))) (ap (λ (u : Bool). round binary64 u k c) (sym e) ∙ shape .2)
+        (round-below binary64 true k c true 1 (negsuc 1073) C (unfold fits in tt) (step-below c (k * 2 ^ 1074) h)))
 
 -- ---- the sizes of two floats are such numbers of steps, over a common denominator
 
@@ -127,16 +131,23 @@ none s u (suc k) n c C h e z =
 module _ (a b c : ℕ) (C : 0 < c) (g : Steps a b c) where
   like-none : (s : Bool) → eq (sum binary64 s a s b c) posZero ≡ true → (a ≡ 0) × (b ≡ 0)
   like-none s z =
-      let k : a + b ≡ 0 = none s (g .unit) (g .a-times + g .b-times) (a + b) c C (g .coarse) ((λ i. g .a-is i + g .b-is i) ∙ sym (mul-add (g .unit) (g .a-times) (g .b-times))) (sym (ap (λ (x : Float). eq x posZero) (sum-like binary64 s a b c)) ∙ z) in
+      let k : a + b ≡ 0 =
+      none s (g .unit) (g .a-times + g .b-times) (a + b) c C (g .coarse) ((λ i. g .a-is i + g .b-is i) ∙ sym (mul-add (g .unit) (g .a-times) (g .b-times)))
+      (sym (ap (λ (x : Float). eq x posZero) (sum-like binary64 s a b c)) ∙ z) in
       (omega arith, omega arith)
 
   unlike-same : (s : Bool) → Three a b → eq (sum binary64 s a (not s) b c) posZero ≡ true → a ≡ b
   unlike-same s (less h) z =
-      let k : b - a ≡ 0 = none (not s) (g .unit) (g .b-times - g .a-times) (b - a) c C (g .coarse) ((λ i. g .b-is i - g .a-is i) ∙ sym (mul-sub (g .unit) (g .b-times) (g .a-times))) (sym (ap (λ (x : Float). eq x posZero) (sum-less binary64 s a b c h)) ∙ z) in
+      let k : b - a ≡ 0 =
+      none (not s) (g .unit) (g .b-times - g .a-times) (b - a) c C (g .coarse)
+      ((λ i. g .b-is i - g .a-is i) ∙ sym (mul-sub (g .unit) (g .b-times) (g .a-times)))
+      (sym (ap (λ (x : Float). eq x posZero) (sum-less binary64 s a b c h)) ∙ z) in
       omega arith
   unlike-same s (same h) z = h
   unlike-same s (more h) z =
-      let k : a - b ≡ 0 = none s (g .unit) (g .a-times - g .b-times) (a - b) c C (g .coarse) ((λ i. g .a-is i - g .b-is i) ∙ sym (mul-sub (g .unit) (g .a-times) (g .b-times))) (sym (ap (λ (x : Float). eq x posZero) (sum-more binary64 s a b c h)) ∙ z) in
+      let k : a - b ≡ 0 =
+      none s (g .unit) (g .a-times - g .b-times) (a - b) c C (g .coarse) ((λ i. g .a-is i - g .b-is i) ∙ sym (mul-sub (g .unit) (g .a-times) (g .b-times)))
+      (sym (ap (λ (x : Float). eq x posZero) (sum-more binary64 s a b c h)) ∙ z) in
       omega arith
 
 is-zero : (s : Bool) (m : ℕ) (e d : ℤ) → T (fits binary64 (fin s m e)) → m * up e * down d ≡ 0 → fin s m e ≡ fin s 0 (pos 0)
@@ -164,17 +175,22 @@ cancel s t m n e d p q z = go s t p q z
     g : Steps a b (down e * down d)
     g = steps (m * up e) (n * up d) (down e) (down d) (denominator s m e p) (denominator t n d q) (divides e d)
 
-    likes : (u : Bool) → T (fits binary64 (fin u m e)) → T (fits binary64 (fin u n d)) → eq (sum binary64 u a u b (down e * down d)) posZero ≡ true → Cancels (fin u m e) (fin u n d)
+    likes : (u : Bool) → T (fits binary64 (fin u m e)) → T (fits binary64 (fin u n d)) → eq (sum binary64 u a u b (down e * down d)) posZero ≡ true
+        → Cancels (fin u m e) (fin u n d)
     likes u i j h =
         let k = like-none a b (down e * down d) C g u h in
         inr (u, is-zero u m e d i (k .0), is-zero u n d e j (k .1))
 
-    unlikes : (u : Bool) → T (fits binary64 (fin u m e)) → T (fits binary64 (fin (not u) n d)) → eq (sum binary64 u a (not u) b (down e * down d)) posZero ≡ true → Cancels (fin u m e) (fin (not u) n d)
+    unlikes : (u : Bool) → T (fits binary64 (fin u m e)) → T (fits binary64 (fin (not u) n d))
+        → eq (sum binary64 u a (not u) b (down e * down d)) posZero ≡ true → Cancels (fin u m e) (fin (not u) n d)
     unlikes u i j h =
         let k = unlike-same a b (down e * down d) C g u (three a b) h in
-        inl (unfold neg in value-unique binary64 (fin (not u) n d) (fin (not u) m e) (not u) (m * up e) (down e) (down-pos e) j (unfold neg in neg-fits binary64 (fin u m e) i) (refl, sym k) (refl, refl))
+        inl (unfold neg in
+        value-unique binary64 (fin (not u) n d) (fin (not u) m e) (not u) (m * up e) (down e) (down-pos e) j
+        (unfold neg in neg-fits binary64 (fin u m e) i) (refl, sym k) (refl, refl))
 
-    go : (u v : Bool) → T (fits binary64 (fin u m e)) → T (fits binary64 (fin v n d)) → eq (sum binary64 u a v b (down e * down d)) posZero ≡ true → Cancels (fin u m e) (fin v n d)
+    go : (u v : Bool) → T (fits binary64 (fin u m e)) → T (fits binary64 (fin v n d)) → eq (sum binary64 u a v b (down e * down d)) posZero ≡ true
+        → Cancels (fin u m e) (fin v n d)
     go true true i j h = likes true i j h
     go true false i j h = unlikes true i j h
     go false true i j h = unlikes false i j h

@@ -4,11 +4,9 @@ use mathlib.Core.Path.{_≡_, refl, sym, ap, subst, _∙_}
 use mathlib.Core.Bool.{Bool, true, false, not, _&&_, _||_}
 use mathlib.Core.List.{List, [], _∷_}
 use mathlib.Core.Option.{Option, none, some}
-use native.Mathlib.Omega.{arith}
-use lib.Dec.{T, eqb}
+use lib.Dec.{T}
 use lib.ListN.{length}
-use borrow.Author.Tests.{eqb-true}
-use Rattle.basics.proofs.Tests.{both}
+use Rattle.basics.proofs.Tests.{zero-not-one}
 use Rattle.refusals.specs.Refusals.{refuseIf, firstOf}
 use Rattle.refusals.specs.declared.Check.{Check}
 use Rattle.refusals.specs.declared.Check.the-variants.{Fine, Refused}
@@ -30,19 +28,12 @@ use Rattle.calibrator.specs.declared.Previous.{Previous}
 use Rattle.calibrator.specs.declared.Previous.the-variants.{Nothing, Quoted}
 use Rattle.calibrator.proofs.Step.{rule-lawful}
 use Rattle.layout.specs.Layout.{image, previousWords, sameWords}
+use Rattle.layout.proofs.Headers.{same-equal}
 use Rattle.image.specs.Image.{savedUnless, saveRefusal, endRestore, Taken, restored, lentWrong}
 use Rattle.image.specs.declared.Restored.{Restored}
 use Rattle.image.specs.declared.Restored.the-variants as Restored
 use Rattle.history.specs.Calls.{Call, quote, save, restore, observes, saves, restores, Acted, acted, afterRestore, act, run, History, newHistory, gains, historyMemory, historyRefusal, Kept, Past, newPast, orElse, keptWith, Told, told, tellQuote, tellSave, tellRestore, wrongRoom, tell, story, isSome, isRefused, Proper, OwnImages, ConfigWords}
 use Rattle.history.proofs.Holds.{Holds, new-holds, step-holds, quote-first, save-first, image-back}
-
-same-words : (xs ys : List ℕ) → sameWords xs ys ≡ true → xs ≡ ys
-same-words [] [] e = refl
-same-words [] (y ∷ ys) e = absurd (let z : _≡_ {A = ℕ} 0 1 = cc in omega arith)
-same-words (x ∷ xs) [] e = absurd (let z : _≡_ {A = ℕ} 0 1 = cc in omega arith)
-same-words (x ∷ xs) (y ∷ ys) e =
-    let p = both (eqb x y) (sameWords xs ys) e in
-    λ i. eqb-true x y (p .0) i ∷ same-words xs ys (p .1) i
 
 module _ (c : MicroPriceConfig) (e : valid c ≡ true) (fits : ConfigWords c) where
   v : Valid c
@@ -74,22 +65,27 @@ module _ (c : MicroPriceConfig) (e : valid c ≡ true) (fits : ConfigWords c) wh
   pub refusal-is : (H : History) → Sound H → (q : TopOfBook) → refusalBy (rule c) (judge c) (historyMemory c H) q ≡ historyRefusal c H q
   refusal-is H h q =
       quote-first c e (historyMemory c H) h q
-      ∙ ap (λ (m : Memory Previous). firstOf (firstOf (checkQuote c q) (refuseIf (earlier (historyMemory c H .last) q) 5)) (refuseIf (over (m .counts)) 6)) (grown H q)
+      ∙ ap (λ (m : Memory Previous). firstOf (firstOf (checkQuote c q) (refuseIf (earlier (historyMemory c H .last) q) 5)) (refuseIf (over (m .counts)) 6))
+      (grown H q)
 
   sound-gains : (H : History) → Sound H → (q : TopOfBook) → AllWords (previousWords (Quoted q)) → historyRefusal c H q ≡ Fine → Sound (gains H q)
   sound-gains H h q words fine =
-      let f = first-fine (firstOf (checkQuote c q) (refuseIf (earlier (historyMemory c H .last) q) 5)) (refuseIf (over (historyMemory c (gains H q) .counts)) 6) fine in
+      let f = first-fine (firstOf (checkQuote c q) (refuseIf (earlier (historyMemory c H .last) q) 5))
+      (refuseIf (over (historyMemory c (gains H q) .counts)) 6) fine in
       let g = first-fine (checkQuote c q) (refuseIf (earlier (historyMemory c H .last) q) 5) (f .0) in
-      let inside : over (step (rule c) (historyMemory c H) q .counts) ≡ false = ap (λ (m : Memory Previous). over (m .counts)) (grown H q) ∙ if-fine (over (historyMemory c (gains H q) .counts)) 6 (f .1) in
+      let inside : over (step (rule c) (historyMemory c H) q .counts) ≡ false =
+      ap (λ (m : Memory Previous). over (m .counts)) (grown H q) ∙ if-fine (over (historyMemory c (gains H q) .counts)) 6 (f .1) in
       subst (Holds c) (grown H q) (step-holds c v (historyMemory c H) h q words (g .0) inside)
 
-  quote-agrees : (P : Past) → Good P → (q : TopOfBook) → AllWords (previousWords (Quoted q)) → Agrees (act c (historyMemory c (P .now)) (quote q)) (tell c P (quote q))
+  quote-agrees : (P : Past) → Good P → (q : TopOfBook) → AllWords (previousWords (Quoted q))
+      → Agrees (act c (historyMemory c (P .now)) (quote q)) (tell c P (quote q))
   quote-agrees P G q words = go (refusalBy (rule c) (judge c) m q) (historyRefusal c (P .now) q) (refusal-is (P .now) (G .now-sound) q) (λ f. f)
     where
       m : Memory Previous
       m = historyMemory c (P .now)
 
-      go : (k : Check) (k′ : Check) → k ≡ k′ → (k′ ≡ Fine → historyRefusal c (P .now) q ≡ Fine) → Agrees (acted (observes (answered k m (step (rule c) m q) .answer)) (answered k m (step (rule c) m q) .left)) (tellQuote k′ P (gains (P .now) q))
+      go : (k : Check) (k′ : Check) → k ≡ k′ → (k′ ≡ Fine → historyRefusal c (P .now) q ≡ Fine)
+          → Agrees (acted (observes (answered k m (step (rule c) m q) .answer)) (answered k m (step (rule c) m q) .left)) (tellQuote k′ P (gains (P .now) q))
       go k Fine f g =
           rw f
           (record {
@@ -128,16 +124,17 @@ module _ (c : MicroPriceConfig) (e : valid c ≡ true) (fits : ConfigWords c) wh
     is : b ≡ image c (historyMemory c H)
 
   kept-is : (b : List ℕ) (ks : List Kept) (H : History) → AllKept ks → keptWith b ks ≡ some H → Returns b H
-  kept-is b [] H a f = absurd (let z : _≡_ {A = ℕ} 0 1 = cc in omega arith)
+  kept-is b [] H a f = absurd (zero-not-one cc)
   kept-is b (k ∷ ks) H a f = go (λ g. kept-is b ks H (a .2) g) (sameWords b (k .bytes)) refl f
     where
       go : (keptWith b ks ≡ some H → Returns b H) → (t : Bool) → sameWords b (k .bytes) ≡ t → orElse t (k .history) (keptWith b ks) ≡ some H → Returns b H
       go later true p g =
           let is : k .history ≡ H = cc in
-          subst (Returns b) is (record { sound = a .1; is = same-words b (k .bytes) p ∙ a .0 })
+          subst (Returns b) is (record { sound = a .1; is = same-equal b (k .bytes) p ∙ a .0 })
       go later false p g = later g
 
-  restore-agrees : (P : Past) → Good P → (b : List ℕ) (lent : Memory Previous) → Proper c P (restore b lent) → Agrees (act c (historyMemory c (P .now)) (restore b lent)) (tell c P (restore b lent))
+  restore-agrees : (P : Past) → Good P → (b : List ℕ) (lent : Memory Previous) → Proper c P (restore b lent)
+      → Agrees (act c (historyMemory c (P .now)) (restore b lent)) (tell c P (restore b lent))
   restore-agrees P G b lent p = go (restored b lent) refl (lentWrong (states c) (lent .counts .tables)) refl (keptWith b (P .kept)) refl p
     where
       m : Memory Previous
@@ -147,12 +144,15 @@ module _ (c : MicroPriceConfig) (e : valid c ≡ true) (fits : ConfigWords c) wh
       other (Restored.Config d) filled f = absurd f
       other (Restored.Refused r) filled f = record { answers = refl; memories = refl; good = G }
 
-      go : (t : Taken) → restored b lent ≡ t → (w : Bool) → lentWrong (states c) (lent .counts .tables) ≡ w → (o : Option History) → keptWith b (P .kept) ≡ o → T ((not w && isSome o) || isRefused (t .answer)) → Agrees (acted (restores (t .answer)) (afterRestore (t .answer) m (t .left))) (tellRestore c P (t .answer) w o)
+      go : (t : Taken) → restored b lent ≡ t → (w : Bool) → lentWrong (states c) (lent .counts .tables) ≡ w → (o : Option History) → keptWith b (P .kept) ≡ o
+          → T ((not w && isSome o) || isRefused (t .answer))
+          → Agrees (acted (restores (t .answer)) (afterRestore (t .answer) m (t .left))) (tellRestore c P (t .answer) w o)
       go t et true ew o eo f = other (t .answer) (t .left) f
       go t et false ew none eo f = other (t .answer) (t .left) f
       go t et false ew (some H) eo f =
           let r = kept-is b (P .kept) H (G .all-kept) eo in
-          let back : t ≡ endRestore (Restored.Config c) (historyMemory c H) = sym et ∙ ap (λ (x : List ℕ). restored x lent) (r .is) ∙ image-back c e fits (historyMemory c H) (r .sound) lent ew in
+          let back : t ≡ endRestore (Restored.Config c) (historyMemory c H) =
+          sym et ∙ ap (λ (x : List ℕ). restored x lent) (r .is) ∙ image-back c e fits (historyMemory c H) (r .sound) lent ew in
           rw back
           (record {
             answers = refl;
@@ -210,7 +210,7 @@ module _ (c : MicroPriceConfig) where
     kept-new : AllNew c (P .kept)
 
   found-new : (b : List ℕ) (ks : List Kept) (H : History) → AllNew c ks → keptWith b ks ≡ some H → H .start ≡ fresh c .counts
-  found-new b [] H a f = absurd (let z : _≡_ {A = ℕ} 0 1 = cc in omega arith)
+  found-new b [] H a f = absurd (zero-not-one cc)
   found-new b (k ∷ ks) H a f = go (λ g. found-new b ks H (a .1) g) (sameWords b (k .bytes)) f
     where
       go : (keptWith b ks ≡ some H → H .start ≡ fresh c .counts) → (t : Bool) → orElse t (k .history) (keptWith b ks) ≡ some H → H .start ≡ fresh c .counts

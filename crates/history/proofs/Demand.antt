@@ -101,7 +101,8 @@ module _ (c : MicroPriceConfig) (e : valid c ≡ true) (fits : ConfigWords c) wh
         skips-are = ap (λ (x : Memory Previous). x .counts .skips) m ∙ skips-of H new;
         largest-is = ap (λ (x : Memory Previous). x .counts .largest) m ∙ largest-of H new;
         neighbours-are = ap (λ (x : Memory Previous). x .counts .pairs + sum (x .counts .skips)) m ∙ neighbours-of H new;
-        balanced = subst (λ (x : Memory Previous). Rattle.tally.specs.Balance.Balanced (states c) (rule c .mirror) (x .counts)) (sym m) (claim .holds .balanced);
+        balanced =
+            subst (λ (x : Memory Previous). Rattle.tally.specs.Balance.Balanced (states c) (rule c .mirror) (x .counts)) (sym m) (claim .holds .balanced);
         quote-refused =
             λ q.
             ap (λ (x : Memory Previous). observed c x q .answer) m

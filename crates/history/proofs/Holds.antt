@@ -10,7 +10,7 @@ use lib.IntN.{ℤ, pos, negsuc, negℤ}
 use lib.ListN.{length, getD, replicate, length-replicate}
 use borrow.Author.Tests.{eq-eqb, leb-true, ltb-false, not-false}
 use Rattle.basics.specs.Lists.{any, allFrom}
-use Rattle.basics.proofs.Tests.{neither, eqb-same}
+use Rattle.basics.proofs.Tests.{zero-not-one, neither, eqb-same}
 use Rattle.words.specs.Words.{twos, AllWords}
 use Rattle.words.proofs.Round.{all-append}
 use Rattle.signed.proofs.Sums.{change-size}
@@ -40,7 +40,6 @@ use Rattle.tally.proofs.Step.{entered-after}
 use Rattle.tally.proofs.Balance.{after-none, after-sized, zeros-sized, zeros-balanced, after-balanced}
 use Rattle.tally.proofs.Overs.{Within, within-known, zeros-within, over-touched}
 use Rattle.mirrored.specs.Mirrors.{sameTotal, storedOver, totalMirrored, cellMirrored, rowMirrored, checkState, isTwice, checkCounts}
-use Rattle.calibrator.specs.Record.{memory}
 use Rattle.calibrator.specs.Observe.{rule, fresh, eventFrom, eventOf, roomFor, broken, refuses, judge, refusalBy, earlier}
 use Rattle.calibrator.specs.declared.Previous.{Previous}
 use Rattle.calibrator.specs.declared.Previous.the-variants.{Nothing, Quoted}
@@ -64,7 +63,7 @@ pub record Holds (c : MicroPriceConfig) (m : Memory Previous) : Type 0 where
 
 refuses-not : (k : Check) → refuses k ≡ false → k ≡ Fine
 refuses-not Fine e = refl
-refuses-not (Refused r) e = absurd (let z : _≡_ {A = ℕ} 0 1 = cc in omega arith)
+refuses-not (Refused r) e = absurd (zero-not-one cc)
 
 module _ (c : MicroPriceConfig) (v : Valid c) where
   pub new-holds : Holds c (fresh c)
@@ -114,7 +113,8 @@ module _ (c : MicroPriceConfig) (v : Valid c) where
               (after-sized (rule c .kinds) (states c) (rule c .mirror) (m .counts) (event ∷ []));
           balanced =
               subst (Balanced (states c) (rule c .mirror)) (sym one-more)
-              (after-balanced (rule c .kinds) (states c) (rule c .mirror) (rule-lawful c v .mirror-below) (rule-lawful c v .mirror-twice) (m .counts) (h .sized) (h .balanced) (event ∷ []) (rule-lawful c v .event-in (m .last) q, tt));
+              (after-balanced (rule c .kinds) (states c) (rule c .mirror) (rule-lawful c v .mirror-below) (rule-lawful c v .mirror-twice) (m .counts)
+              (h .sized) (h .balanced) (event ∷ []) (rule-lawful c v .event-in (m .last) q, tt));
           within = inside;
           sound = ap refuses fine;
           last-fits = words;
@@ -126,7 +126,8 @@ module _ (c : MicroPriceConfig) (v : Valid c) where
     pub touched-is : touched (states c) (rule c .mirror) event (step (rule c) m q .counts) ≡ over (step (rule c) m q .counts)
     touched-is =
         sym
-        (over-touched (rule c .kinds) (states c) (rule c .mirror) (rule-lawful c v .mirror-below) (m .counts) (h .sized) (h .within) event (rule-lawful c v .event-in (m .last) q))
+        (over-touched (rule c .kinds) (states c) (rule c .mirror) (rule-lawful c v .mirror-below) (m .counts) (h .sized) (h .within) event
+        (rule-lawful c v .event-in (m .last) q))
 
 -- ---- the count check
 
@@ -149,7 +150,9 @@ module _ (N : ℕ) (mirror : ℕ → ℕ) (k : Counts) (b : Balanced N mirror k)
   state-fine : (i : ℕ) → i < N → checkState N mirror (k .tables) i ≡ Fine
   state-fine i hi =
       let t : totalMirrored (k .tables .totals) i (mirror i) ≡ true = rw (b .totals-mirrored i hi) (same-own (negℤ (getD (k .tables .totals) i (pos 0)))) in
-      let r : rowMirrored N mirror (k .tables) i ≡ true = all-all (cellMirrored N mirror (k .tables) i) 0 N (λ j b′. let hj : j < N = omega arith in rw (eq-eqb _ _ (sym (b .stay-mirrored i j hi hj))) (eq-eqb _ _ (sym (b .moved-mirrored i j hi hj)))) in
+      let r : rowMirrored N mirror (k .tables) i ≡ true =
+      all-all (cellMirrored N mirror (k .tables) i) 0 N
+      (λ j b′. let hj : j < N = omega arith in rw (eq-eqb _ _ (sym (b .stay-mirrored i j hi hj))) (eq-eqb _ _ (sym (b .moved-mirrored i j hi hj)))) in
       rw (t, r)
 
   pub check-fine : over k ≡ false → checkCounts N mirror k ≡ Fine
@@ -175,7 +178,8 @@ module _ (c : MicroPriceConfig) (e : valid c ≡ true) (m : Memory Previous) (h 
       rw (e, a, b, d)
 
   -- a quote is refused by 2, 3, 4, 5 or 6
-  pub quote-first : (q : TopOfBook) → refusalBy (rule c) (judge c) m q ≡ firstOf (firstOf (checkQuote c q) (refuseIf (earlier (m .last) q) 5)) (refuseIf (over (step (rule c) m q .counts)) 6)
+  pub quote-first : (q : TopOfBook)
+      → refusalBy (rule c) (judge c) m q ≡ firstOf (firstOf (checkQuote c q) (refuseIf (earlier (m .last) q) 5)) (refuseIf (over (step (rule c) m q .counts)) 6)
   quote-first q = rw (room-fine, h .sound, touched-is c v m h q)
 
   -- a save only by its output's length
@@ -226,7 +230,8 @@ module _ (c : MicroPriceConfig) (e : valid c ≡ true) (fits : ConfigWords c) (m
   body-fits : AllWords (body (m .counts .tables))
   body-fits =
       all-append (m .counts .tables .stay) (m .counts .tables .moved ++ map twos (m .counts .tables .totals)) (cells-fit (m .counts .tables .stay) (w .stay-in))
-      (all-append (m .counts .tables .moved) (map twos (m .counts .tables .totals)) (cells-fit (m .counts .tables .moved) (w .moved-in)) (totals-fit (m .counts .tables .totals) (w .totals-in)))
+      (all-append (m .counts .tables .moved) (map twos (m .counts .tables .totals)) (cells-fit (m .counts .tables .moved) (w .moved-in))
+      (totals-fit (m .counts .tables .totals) (w .totals-in)))
 
   header-fits : AllWords (header c (m .last) (m .counts))
   unfolding header
@@ -251,7 +256,8 @@ module _ (c : MicroPriceConfig) (e : valid c ≡ true) (fits : ConfigWords c) (m
                       (
                         omega arith,
                         all-append (previousWords (m .last) ++ (m .counts .pairs ∷ (m .counts .skips ++ (m .counts .largest ∷ [])))) (imageLength c ∷ [])
-                            (all-append (previousWords (m .last)) (m .counts .pairs ∷ (m .counts .skips ++ (m .counts .largest ∷ []))) (h .last-fits) record-fits)
+                            (all-append (previousWords (m .last)) (m .counts .pairs ∷ (m .counts .skips ++ (m .counts .largest ∷ []))) (h .last-fits)
+                            record-fits)
                             (omega arith, tt),
                       ),
                     ),
@@ -274,7 +280,9 @@ module _ (c : MicroPriceConfig) (e : valid c ≡ true) (fits : ConfigWords c) (m
       let k = save-image c e m h out (length-replicate (imageLength c) 0) in
       let r = recordOf m in
       let t = m .counts .tables in
-      let round = restored-saved c r (t .stay) (t .moved) (t .totals) out lent (subst (λ (x : Memory Previous). AllWords (header c (x .last) (x .counts) ++ body (x .counts .tables))) (sym is) words-fit) sizes (ap (λ (x : Memory Previous). saved c x out .answer) is ∙ ap (λ x. x .answer) k) in
+      let round = restored-saved c r (t .stay) (t .moved) (t .totals) out lent
+      (subst (λ (x : Memory Previous). AllWords (header c (x .last) (x .counts) ++ body (x .counts .tables))) (sym is) words-fit) sizes
+      (ap (λ (x : Memory Previous). saved c x out .answer) is ∙ ap (λ x. x .answer) k) in
       sym (ap (λ (x : Memory Previous). restored (saved c x out .output) lent) is ∙ ap (λ x. restored (x .output) lent) k)
       ∙ round
       ∙ ap (endRestore (Config c)) is

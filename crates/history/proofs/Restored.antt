@@ -9,7 +9,7 @@ use lib.IntN.{ℤ, pos, negsuc, negℤ}
 use lib.ListN.{length, getD, drop, length-drop, length-map}
 use borrow.Author.Tests.{eqb-true, le-ltb, ltb-false, not-false}
 use Rattle.basics.specs.Lists.{any, sum}
-use Rattle.basics.proofs.Tests.{both, neither}
+use Rattle.basics.proofs.Tests.{zero-not-one, both, neither}
 use Rattle.words.specs.Words.{wordsOf, untwos, AllBytes, AllWords}
 use Rattle.words.proofs.Laws.{length-words}
 use Rattle.words.proofs.Round.{bytes-drop, words-fit}
@@ -39,8 +39,8 @@ use Rattle.history.proofs.Holds.{Holds}
 
 same-total : (x y : ℤ) → sameTotal x y ≡ true → x ≡ y
 same-total (pos a) (pos b) e = λ i. pos (eqb-true a b e i)
-same-total (pos a) (negsuc b) e = absurd (let z : _≡_ {A = ℕ} 0 1 = cc in omega arith)
-same-total (negsuc a) (pos b) e = absurd (let z : _≡_ {A = ℕ} 0 1 = cc in omega arith)
+same-total (pos a) (negsuc b) e = absurd (zero-not-one cc)
+same-total (negsuc a) (pos b) e = absurd (zero-not-one cc)
 same-total (negsuc a) (negsuc b) e = λ i. negsuc (eqb-true a b e i)
 
 -- a cell is at most the sum of all
@@ -75,10 +75,13 @@ module _ (N : ℕ) (mirror : ℕ → ℕ) (k : Counts) (fine : checkCounts N mir
         same-total (getD (k .tables .totals) (mirror i) (pos 0)) (negℤ (getD (k .tables .totals) i (pos 0)))
         (not-false (totalMirrored (k .tables .totals) i (mirror i)) (if-fine _ 9 (state .0)))
 
-    cells : (j : ℕ) → j < N → (cellsAlike (k .tables .stay) (i * N + j) (mirror i * N + mirror j) ≡ true) × (cellsAlike (k .tables .moved) (i * N + j) (mirror i * N + mirror j) ≡ true)
+    cells : (j : ℕ) → j < N
+        → (cellsAlike (k .tables .stay) (i * N + j) (mirror i * N + mirror j) ≡ true)
+        × (cellsAlike (k .tables .moved) (i * N + j) (mirror i * N + mirror j) ≡ true)
     cells j g =
         both (cellsAlike (k .tables .stay) (i * N + j) (mirror i * N + mirror j)) (cellsAlike (k .tables .moved) (i * N + j) (mirror i * N + mirror j))
-        (all-at (cellMirrored N mirror (k .tables) i) 0 N j (not-false (rowMirrored N mirror (k .tables) i) (if-fine _ 10 (state .1))) (omega arith) (omega arith))
+        (all-at (cellMirrored N mirror (k .tables) i) 0 N j (not-false (rowMirrored N mirror (k .tables) i) (if-fine _ 10 (state .1))) (omega arith)
+        (omega arith))
 
   check-balanced : Balanced N mirror k
   check-balanced =
@@ -127,9 +130,10 @@ tables-sized b =
           length-map (wordsOf N (drop (16 * (N * N)) B)) untwos ∙ length-words N (drop (16 * (N * N)) B);
     }
 
-taken-known : (k : Check) (b : List ℕ) (m : Memory Previous) (c : MicroPriceConfig) → takenUnless k b m .answer ≡ Restored.Config c → (k ≡ Fine) × (configIn b ≡ c) × (memoryIn b ≡ takenUnless k b m .left)
+taken-known : (k : Check) (b : List ℕ) (m : Memory Previous) (c : MicroPriceConfig) → takenUnless k b m .answer ≡ Restored.Config c
+    → (k ≡ Fine) × (configIn b ≡ c) × (memoryIn b ≡ takenUnless k b m .left)
 taken-known Fine b m c e = (refl, cc, refl)
-taken-known (Refused r) b m c e = absurd (let z : _≡_ {A = ℕ} 0 1 = cc in omega arith)
+taken-known (Refused r) b m c e = absurd (zero-not-one cc)
 
 module _ (b : List ℕ) (bytes : AllBytes b) (m : Memory Previous) (c : MicroPriceConfig) (e : restored b m .answer ≡ Restored.Config c) where
   pub restored-holds : Holds c (restored b m .left)

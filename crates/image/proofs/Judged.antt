@@ -9,7 +9,7 @@ use lib.IntN.{ℤ}
 use lib.ListN.{length, take, drop, length-take, length-drop}
 use lib.Seq.{drop-drop, take-take}
 use borrow.Author.Tests.{eqb-true, ltb-false, not-false}
-use Rattle.basics.proofs.Tests.{both}
+use Rattle.basics.proofs.Tests.{zero-not-one, both}
 use Rattle.words.specs.Words.{value, wordsOf, untwos}
 use Rattle.refusals.specs.Refusals.{refuseIf, firstOf}
 use Rattle.refusals.specs.declared.Check.the-variants.{Fine}
@@ -82,7 +82,8 @@ restore-known b t e =
     let a = first-fine (refuseIf (tooShort b) 12) (firstOf (checkConfig c) (firstOf (refuseIf (not (laidOut b)) 12) (heldRefusal b t))) e in
     let d = first-fine (checkConfig c) (firstOf (refuseIf (not (laidOut b)) 12) (heldRefusal b t)) (a .1) in
     let f = first-fine (refuseIf (not (laidOut b)) 12) (heldRefusal b t) (d .1) in
-    let l = both (sameWords (headerIn b) (header c (previousIn b) (memoryIn b .counts))) (eqb (length b) (imageLength c)) (not-false (laidOut b) (if-fine (not (laidOut b)) 12 (f .0))) in
+    let l = both (sameWords (headerIn b) (header c (previousIn b) (memoryIn b .counts))) (eqb (length b) (imageLength c))
+    (not-false (laidOut b) (if-fine (not (laidOut b)) 12 (f .0))) in
     let h = first-fine (refuseIf (lentWrong (states c) t) 7) (firstOf (refuseIf (broken c (previousIn b)) 8) (checkMirrored c (memoryIn b .counts))) (f .1) in
     let k = first-fine (refuseIf (broken c (previousIn b)) 8) (checkMirrored c (memoryIn b .counts)) (h .1) in
     record {
@@ -127,7 +128,8 @@ words-take (suc n) k l h =
     λ i. value (take-take 8 k l (omega arith) i) ∷ (ap (wordsOf n) (drop-take 8 k l (omega arith)) ∙ words-take n (k - 8) (drop 8 l) (omega arith)) i
 
 -- a part of n words
-part : (n k at : ℕ) (b : List ℕ) → k ≡ 8 * n → at + 8 * n ≤ length b → (length (take k (drop at b)) ≡ 8 * n) × (wordsOf (length (take k (drop at b)) / 8) (take k (drop at b)) ≡ wordsOf n (drop at b))
+part : (n k at : ℕ) (b : List ℕ) → k ≡ 8 * n → at + 8 * n ≤ length b
+    → (length (take k (drop at b)) ≡ 8 * n) × (wordsOf (length (take k (drop at b)) / 8) (take k (drop at b)) ≡ wordsOf n (drop at b))
 part n k at b e h =
     let l : length (take k (drop at b)) ≡ 8 * n = simp (length-take, length-drop) (omega arith) in
     let d : length (take k (drop at b)) / 8 ≡ n = omega arith in
@@ -156,15 +158,17 @@ module _ (b : List ℕ) (c : MicroPriceConfig) (v : Valid c) (whole : length b �
   parts-lie s m t =
       record {
         few = v .states-most;
-        stay-there = record { lent-is = λ e. absurd (let z : _≡_ {A = ℕ} 0 1 = cc in omega arith); bytes-is = λ e. omega (arith, in-stay .0) };
-        moved-there = record { lent-is = λ e. absurd (let z : _≡_ {A = ℕ} 0 1 = cc in omega arith); bytes-is = λ e. omega (arith, in-moved .0) };
-        totals-there = record { lent-is = λ e. absurd (let z : _≡_ {A = ℕ} 0 1 = cc in omega arith); bytes-is = λ e. in-totals .0 };
+        stay-there = record { lent-is = λ e. absurd (zero-not-one cc); bytes-is = λ e. omega (arith, in-stay .0) };
+        moved-there = record { lent-is = λ e. absurd (zero-not-one cc); bytes-is = λ e. omega (arith, in-moved .0) };
+        totals-there = record { lent-is = λ e. absurd (zero-not-one cc); bytes-is = λ e. in-totals .0 };
       }
 
   pub parts-are : (s m : List ℕ) (t : List ℤ) → tablesIn true s m t sb mb tb ≡ tablesFrom (states c) (drop headerLength b)
   parts-are s m t =
-      let dm : drop (160 + 8 * C) b ≡ drop (8 * cells c) (drop 160 b) = sym (drop-drop (8 * cells c) 160 b ∙ ap (λ (j : ℕ). drop j b) (let s : 160 + 8 * cells c ≡ 160 + 8 * C = omega arith in s)) in
-      let dt : drop (160 + 16 * C) b ≡ drop (16 * cells c) (drop 160 b) = sym (drop-drop (16 * cells c) 160 b ∙ ap (λ (j : ℕ). drop j b) (let s : 160 + 16 * cells c ≡ 160 + 16 * C = omega arith in s)) in
+      let dm : drop (160 + 8 * C) b ≡ drop (8 * cells c) (drop 160 b) =
+      sym (drop-drop (8 * cells c) 160 b ∙ ap (λ (j : ℕ). drop j b) (let s : 160 + 8 * cells c ≡ 160 + 8 * C = omega arith in s)) in
+      let dt : drop (160 + 16 * C) b ≡ drop (16 * cells c) (drop 160 b) =
+      sym (drop-drop (16 * cells c) 160 b ∙ ap (λ (j : ℕ). drop j b) (let s : 160 + 16 * cells c ≡ 160 + 16 * C = omega arith in s)) in
       λ i.
       record {
         stay = (in-stay .1 ∙ ap (λ (j : ℕ). wordsOf j (drop 160 b)) is) i;

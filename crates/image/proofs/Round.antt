@@ -12,7 +12,7 @@ use mir.Syntax.{w64}
 use mir.Facts.{toZ-ofZ}
 use borrow.Author.Tests.{le-ltb, eq-eqb, leb-true, not-false}
 use Rattle.basics.specs.Lists.{any}
-use Rattle.basics.proofs.Tests.{neither, eqb-same}
+use Rattle.basics.proofs.Tests.{zero-not-one, neither, eqb-same}
 use Rattle.words.specs.Words.{bytesOf, wordsOf, twos, untwos, AllBytes, AllWords}
 use Rattle.words.proofs.Laws.{length-bytes, length-words, words-at, words-part}
 use Rattle.words.proofs.Round.{words-back, bytes-back, bytes-drop, words-fit, words-join, twos-back}
@@ -29,8 +29,7 @@ use Rattle.tally.specs.Entries.{Tables, tables, overTotal}
 use Rattle.tally.specs.Events.{Counts}
 use Rattle.tally.specs.Limits.{overCounter}
 use Rattle.tally.specs.Rules.{Memory}
-use Rattle.mirrored.specs.Mirrors.{checkMirrored}
-use Rattle.mirrored.specs.Mirrors.{storedOver, checkState, isTwice, checkCounts}
+use Rattle.mirrored.specs.Mirrors.{checkMirrored, storedOver, checkState, isTwice, checkCounts}
 use Rattle.calibrator.specs.Observe.{roomFor, broken}
 use Rattle.calibrator.specs.Record.{countsOf, memory}
 use Rattle.calibrator.specs.declared.Counters.{Counters}
@@ -61,7 +60,8 @@ accepted-image b t a e =
     let B = drop 160 b in
     let lB : length B ≡ 16 * C + 8 * N = simp length-drop (omega (arith, k .whole)) in
     let aB = bytes-drop 160 b a in
-    let d : drop (16 * C) B ≡ drop (8 * C) (drop (8 * C) B) = sym (drop-drop (8 * C) (8 * C) B ∙ ap (λ (j : ℕ). drop j B) (let s : 8 * C + 8 * C ≡ 16 * C = omega arith in s)) in
+    let d : drop (16 * C) B ≡ drop (8 * C) (drop (8 * C) B) =
+    sym (drop-drop (8 * C) (8 * C) B ∙ ap (λ (j : ℕ). drop j B) (let s : 8 * C + 8 * C ≡ 16 * C = omega arith in s)) in
     let t₃ : map twos (map untwos (wordsOf N (drop (16 * C) B))) ≡ wordsOf N (drop (8 * C) (drop (8 * C) B)) =
     twos-back (wordsOf N (drop (16 * C) B)) (words-fit N (drop (16 * C) B) (bytes-drop (16 * C) B aB) (omega (arith, length-drop (16 * C) B)))
     ∙ ap (wordsOf N) d in
@@ -91,12 +91,27 @@ same-self [] = refl
 same-self (x ∷ xs) = rw (eqb-same x) (same-self xs)
 
 -- the record read back from the header's words
-previous-read : (c : MicroPriceConfig) (l : Previous) (k : Counters) (T : Tables) (rest : List ℕ) → cond (eqb (getD (header c l (countsOf k T) ++ rest) 9 0) 1) (Quoted (record { «timestamp_ms» = getD (header c l (countsOf k T) ++ rest) 10 0; bid = getD (header c l (countsOf k T) ++ rest) 11 0; ask = getD (header c l (countsOf k T) ++ rest) 12 0; «bid_size» = getD (header c l (countsOf k T) ++ rest) 13 0; «ask_size» = getD (header c l (countsOf k T) ++ rest) 14 0 })) Nothing ≡ l
+previous-read : (c : MicroPriceConfig) (l : Previous) (k : Counters) (T : Tables) (rest : List ℕ)
+    → cond (eqb (getD (header c l (countsOf k T) ++ rest) 9 0) 1)
+    (Quoted (record {
+      «timestamp_ms» = getD (header c l (countsOf k T) ++ rest) 10 0;
+      bid = getD (header c l (countsOf k T) ++ rest) 11 0;
+      ask = getD (header c l (countsOf k T) ++ rest) 12 0;
+      «bid_size» = getD (header c l (countsOf k T) ++ rest) 13 0;
+      «ask_size» = getD (header c l (countsOf k T) ++ rest) 14 0;
+    })) Nothing ≡ l
 unfolding header
 previous-read c Nothing k T rest = refl
 previous-read c (Quoted q) k T rest = refl
 
-counters-read : (c : MicroPriceConfig) (l : Previous) (k : Counters) (T : Tables) (rest : List ℕ) → _≡_ {A = Counters} (record { pairs = getD (header c l (countsOf k T) ++ rest) 15 0; «skipped_spread_pairs» = getD (header c l (countsOf k T) ++ rest) 16 0; «skipped_gap_pairs» = getD (header c l (countsOf k T) ++ rest) 17 0; «largest_move_half_ticks» = getD (header c l (countsOf k T) ++ rest) 18 0 }) k
+counters-read : (c : MicroPriceConfig) (l : Previous) (k : Counters) (T : Tables) (rest : List ℕ)
+    → _≡_ {A = Counters}
+    (record {
+      pairs = getD (header c l (countsOf k T) ++ rest) 15 0;
+      «skipped_spread_pairs» = getD (header c l (countsOf k T) ++ rest) 16 0;
+      «skipped_gap_pairs» = getD (header c l (countsOf k T) ++ rest) 17 0;
+      «largest_move_half_ticks» = getD (header c l (countsOf k T) ++ rest) 18 0;
+    }) k
 unfolding header
 counters-read c Nothing k T rest = refl
 counters-read c (Quoted q) k T rest = refl
@@ -126,7 +141,17 @@ module _ (c : MicroPriceConfig) (l : Previous) (k : Counters) (s m : List ℕ) (
 
     length-ws : length ws ≡ 20 + (C + (C + states c))
     length-ws =
-        omega (arith, length-append h (body T), length-append s (m ++ map twos t), length-append m (map twos t), length-map t twos, length-h, z .stay-cells, z .moved-cells, z .totals-cells)
+        omega (
+          arith,
+          length-append h (body T),
+          length-append s (m ++ map twos t),
+          length-append m (map twos t),
+          length-map t twos,
+          length-h,
+          z .stay-cells,
+          z .moved-cells,
+          z .totals-cells,
+        )
 
     pub image-length : length b ≡ imageLength c
     image-length = length-bytes ws ∙ omega (arith, length-ws)
@@ -209,7 +234,8 @@ module _ (c : MicroPriceConfig) (l : Previous) (k : Counters) (s m : List ℕ) (
     -- what the image holds is what was saved
     pub memory-back : memoryIn b ≡ held
     memory-back =
-        (λ i. memory (record { previous = previous-back i; counters = counters-back i }) (tablesFrom (states (config-back i)) (drop 160 b) .stay) (tablesFrom (states (config-back i)) (drop 160 b) .moved) (tablesFrom (states (config-back i)) (drop 160 b) .totals))
+        (λ i. memory (record { previous = previous-back i; counters = counters-back i }) (tablesFrom (states (config-back i)) (drop 160 b) .stay)
+        (tablesFrom (states (config-back i)) (drop 160 b) .moved) (tablesFrom (states (config-back i)) (drop 160 b) .totals))
         ∙ (λ i. memory (record { previous = l; counters = k }) (stay-back i) (moved-back i) ((ap (map untwos) totals-words ∙ totals-back t small) i))
 
     header-back : headerIn b ≡ h
@@ -217,11 +243,13 @@ module _ (c : MicroPriceConfig) (l : Previous) (k : Counters) (s m : List ℕ) (
 
     laid-out : laidOut b ≡ true
     laid-out =
-        (λ i. sameWords (header-back i) (header (config-back i) (previous-back i) (memory-back i .counts)) && eqb (image-length i) (imageLength (config-back i)))
+        (λ i. sameWords (header-back i) (header (config-back i) (previous-back i) (memory-back i .counts)) && eqb (image-length i)
+        (imageLength (config-back i)))
         ∙ rw (same-self h, eqb-same (imageLength c))
 
     -- and nothing refuses it, where nothing refused the save and the lent tables have its lengths
-    pub image-accepted : valid c ≡ true → broken c l ≡ false → checkMirrored c (countsOf k T) ≡ Fine → (lent : Tables) → lentWrong (states c) lent ≡ false → restoreRefusal b lent ≡ Fine
+    pub image-accepted : valid c ≡ true → broken c l ≡ false → checkMirrored c (countsOf k T) ≡ Fine → (lent : Tables) → lentWrong (states c) lent ≡ false
+        → restoreRefusal b lent ≡ Fine
     image-accepted valid-c sound fine lent sizes =
         let short : tooShort b ≡ false = le-ltb (length b) 160 (omega (arith, image-length)) in
         let conf : valid (configIn b) ≡ true = ap valid config-back ∙ valid-c in
@@ -232,15 +260,18 @@ module _ (c : MicroPriceConfig) (l : Previous) (k : Counters) (s m : List ℕ) (
 
 counts-small : (N : ℕ) (mirror : ℕ → ℕ) (k : Counts) → checkCounts N mirror k ≡ Fine → any overTotal (k .tables .totals) ≡ false
 counts-small N mirror k e =
-    let f = first-fine (refuseIf (storedOver k) 6) (firstOf (firstFrom (checkState N mirror (k .tables)) 0 N) (refuseIf (not (isTwice (k .pairs) (k .tables))) 11)) e in
+    let f = first-fine (refuseIf (storedOver k) 6)
+    (firstOf (firstFrom (checkState N mirror (k .tables)) 0 N) (refuseIf (not (isTwice (k .pairs) (k .tables))) 11)) e in
     neither (overCounter (k .pairs) || any overCounter (k .skips)) (any overTotal (k .tables .totals)) (if-fine (storedOver k) 6 (f .0)) .1
 
 save-fine : (x : Check) (before written : List ℕ) → savedUnless x before written .answer ≡ Fine → (x ≡ Fine) × (savedUnless x before written .output ≡ written)
 save-fine Fine before written e = (refl, refl)
-save-fine (Refused r) before written e = absurd (let z : _≡_ {A = ℕ} 0 1 = cc in omega arith)
+save-fine (Refused r) before written e = absurd (zero-not-one cc)
 
 -- restoring what was saved, into any memory of the right lengths, gives back configuration, record and tables
-pub restored-saved : (c : MicroPriceConfig) (r : Record) (s m : List ℕ) (t : List ℤ) (out : List ℕ) (lent : Memory Previous) → AllWords (header c (r .previous) (countsOf (r .counters) (tables s m t)) ++ body (tables s m t)) → lentWrong (states c) (lent .counts .tables) ≡ false → saved c (memory r s m t) out .answer ≡ Fine → restored (saved c (memory r s m t) out .output) lent ≡ endRestore (Config c) (memory r s m t)
+pub restored-saved : (c : MicroPriceConfig) (r : Record) (s m : List ℕ) (t : List ℤ) (out : List ℕ) (lent : Memory Previous)
+    → AllWords (header c (r .previous) (countsOf (r .counters) (tables s m t)) ++ body (tables s m t)) → lentWrong (states c) (lent .counts .tables) ≡ false
+    → saved c (memory r s m t) out .answer ≡ Fine → restored (saved c (memory r s m t) out .output) lent ≡ endRestore (Config c) (memory r s m t)
 restored-saved c r s m t out lent fits sizes e =
     let f = save-fine (saveRefusal c (memory r s m t) (length out)) out (image c (memory r s m t)) e in
     let k = save-known c (memory r s m t) (length out) (f .0) in
@@ -250,11 +281,13 @@ restored-saved c r s m t out lent fits sizes e =
     let taken = image-accepted c (r .previous) (r .counters) s m t (k .conf) z fits small (k .valid-is) (k .sound) (k .mirrored) (lent .counts .tables) sizes in
     ap (λ (o : List ℕ). restored o lent) (f .1)
     ∙ ap (λ (x : Check). takenUnless x b lent) taken
-    ∙ (λ i. endRestore (Config (config-back c (r .previous) (r .counters) s m t (k .conf) z fits small i)) (memory-back c (r .previous) (r .counters) s m t (k .conf) z fits small i))
+    ∙ (λ i. endRestore (Config (config-back c (r .previous) (r .counters) s m t (k .conf) z fits small i))
+    (memory-back c (r .previous) (r .counters) s m t (k .conf) z fits small i))
 
-restore-fine : (x : Check) (b : List ℕ) (m : Memory Previous) (c : MicroPriceConfig) → takenUnless x b m .answer ≡ Config c → (x ≡ Fine) × (configIn b ≡ c) × (takenUnless x b m .left ≡ memoryIn b)
+restore-fine : (x : Check) (b : List ℕ) (m : Memory Previous) (c : MicroPriceConfig) → takenUnless x b m .answer ≡ Config c
+    → (x ≡ Fine) × (configIn b ≡ c) × (takenUnless x b m .left ≡ memoryIn b)
 restore-fine Fine b m c e = (refl, cc, refl)
-restore-fine (Refused r) b m c e = absurd (let z : _≡_ {A = ℕ} 0 1 = cc in omega arith)
+restore-fine (Refused r) b m c e = absurd (zero-not-one cc)
 
 held-room : (b : List ℕ) (t : Tables) → restoreRefusal b t ≡ Fine → roomFor (configIn b) (memoryIn b) ≡ Fine
 held-room b t e =
@@ -263,11 +296,13 @@ held-room b t e =
     let B = drop 160 b in
     let ls = length-words (N * N) B in
     let lm = length-words (N * N) (drop (8 * (N * N)) B) in
-    let lt : length (map untwos (wordsOf N (drop (16 * (N * N)) B))) ≡ N = length-map (wordsOf N (drop (16 * (N * N)) B)) untwos ∙ length-words N (drop (16 * (N * N)) B) in
+    let lt : length (map untwos (wordsOf N (drop (16 * (N * N)) B))) ≡ N =
+    length-map (wordsOf N (drop (16 * (N * N)) B)) untwos ∙ length-words N (drop (16 * (N * N)) B) in
     rw (k .valid-is, ls, lm, lt, eqb-same (N * N), eqb-same N)
 
 -- and saving what restore gave writes the image that it was given
-pub saved-restored : (b : List ℕ) (lent : Memory Previous) (c : MicroPriceConfig) (out : List ℕ) → AllBytes b → restored b lent .answer ≡ Config c → length out ≡ length b → saved c (restored b lent .left) out ≡ endSave Fine b
+pub saved-restored : (b : List ℕ) (lent : Memory Previous) (c : MicroPriceConfig) (out : List ℕ) → AllBytes b → restored b lent .answer ≡ Config c
+    → length out ≡ length b → saved c (restored b lent .left) out ≡ endSave Fine b
 saved-restored b lent c out bytes e long =
     let f = restore-fine (restoreRefusal b (lent .counts .tables)) b lent c e in
     let k = restore-known b (lent .counts .tables) (f .0) in

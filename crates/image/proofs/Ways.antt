@@ -55,25 +55,33 @@ module _ (c : MicroPriceConfig) (l : Previous) (k : Counts) (t : Tables) where
   held-checked e f = rw (e, f)
 
 -- of what an image tells
-pub held-is : (b : List ℕ) (t : Tables) (c : MicroPriceConfig) (r : Record) → c ≡ configIn b → r ≡ recordIn b → heldWith c (r .previous) (countsOf (r .counters) (tablesFrom (states c) (drop headerLength b))) t ≡ heldRefusal b t
+pub held-is : (b : List ℕ) (t : Tables) (c : MicroPriceConfig) (r : Record) → c ≡ configIn b → r ≡ recordIn b
+    → heldWith c (r .previous) (countsOf (r .counters) (tablesFrom (states c) (drop headerLength b))) t ≡ heldRefusal b t
 held-is b t c r ec er =
     λ i. heldWith (ec i) (er i .previous) (countsOf (er i .counters) (tablesFrom (states (ec i)) (drop headerLength b))) t
 
 -- the three reads
-pub read-is : (b s m s′ m′ : List ℕ) (t t′ : List ℤ) (C : ℕ) → Readable b (length s) (length m) (length t) → C ≡ length s → s′ ≡ wordsOf (length s) (drop 160 b) → m′ ≡ wordsOf (length m) (drop (160 + 8 * C) b) → t′ ≡ map untwos (wordsOf (length t) (drop (160 + 16 * C) b)) → tables s′ m′ t′ ≡ memoryIn b .counts .tables
+pub read-is : (b s m s′ m′ : List ℕ) (t t′ : List ℤ) (C : ℕ) → Readable b (length s) (length m) (length t) → C ≡ length s
+    → s′ ≡ wordsOf (length s) (drop 160 b) → m′ ≡ wordsOf (length m) (drop (160 + 8 * C) b) → t′ ≡ map untwos (wordsOf (length t) (drop (160 + 16 * C) b))
+    → tables s′ m′ t′ ≡ memoryIn b .counts .tables
 read-is b s m s′ m′ t t′ C r ec es em et =
     let D = cells (configIn b) in
-    let dm : drop (160 + 8 * C) b ≡ drop (8 * D) (drop 160 b) = sym (drop-drop (8 * D) 160 b ∙ ap (λ (j : ℕ). drop j b) (let z : 160 + 8 * D ≡ 160 + 8 * C = omega (arith, r .stay-cells) in z)) in
-    let dt : drop (160 + 16 * C) b ≡ drop (16 * D) (drop 160 b) = sym (drop-drop (16 * D) 160 b ∙ ap (λ (j : ℕ). drop j b) (let z : 160 + 16 * D ≡ 160 + 16 * C = omega (arith, r .stay-cells) in z)) in
+    let dm : drop (160 + 8 * C) b ≡ drop (8 * D) (drop 160 b) =
+    sym (drop-drop (8 * D) 160 b ∙ ap (λ (j : ℕ). drop j b) (let z : 160 + 8 * D ≡ 160 + 8 * C = omega (arith, r .stay-cells) in z)) in
+    let dt : drop (160 + 16 * C) b ≡ drop (16 * D) (drop 160 b) =
+    sym (drop-drop (16 * D) 160 b ∙ ap (λ (j : ℕ). drop j b) (let z : 160 + 16 * D ≡ 160 + 16 * C = omega (arith, r .stay-cells) in z)) in
     λ i.
     record {
       stay = (es ∙ ap (λ (j : ℕ). wordsOf j (drop 160 b)) (r .stay-cells)) i;
       moved = (em ∙ ap (λ (j : ℕ). wordsOf j (drop (160 + 8 * C) b)) (r .moved-cells) ∙ ap (wordsOf D) dm) i;
-      totals = (et ∙ ap (λ (j : ℕ). map untwos (wordsOf j (drop (160 + 16 * C) b))) (r .totals-cells) ∙ ap (λ (l : List ℕ). map untwos (wordsOf (states (configIn b)) l)) dt) i;
+      totals =
+          (et ∙ ap (λ (j : ℕ). map untwos (wordsOf j (drop (160 + 16 * C) b))) (r .totals-cells)
+          ∙ ap (λ (l : List ℕ). map untwos (wordsOf (states (configIn b)) l)) dt) i;
     }
 
 -- restored
-pub way-restored : (b : List ℕ) (m : Memory Previous) → restoreRefusal b (m .counts .tables) ≡ Fine → (c : MicroPriceConfig) → c ≡ configIn b → (r : Record) → r ≡ recordIn b → (s′ m′ : List ℕ) (t′ : List ℤ) → tables s′ m′ t′ ≡ memoryIn b .counts .tables → endRestore (Config c) (memory r s′ m′ t′) ≡ restored b m
+pub way-restored : (b : List ℕ) (m : Memory Previous) → restoreRefusal b (m .counts .tables) ≡ Fine → (c : MicroPriceConfig) → c ≡ configIn b → (r : Record)
+    → r ≡ recordIn b → (s′ m′ : List ℕ) (t′ : List ℤ) → tables s′ m′ t′ ≡ memoryIn b .counts .tables → endRestore (Config c) (memory r s′ m′ t′) ≡ restored b m
 way-restored b m e c ec r er s′ m′ t′ et =
     (λ i. endRestore (Config (ec i)) (record { last = er i .previous; counts = countsOf (er i .counters) (et i) }))
     ∙ (let g : endRestore (Config (configIn b)) (memoryIn b) ≡ restored b m = rw e in g)

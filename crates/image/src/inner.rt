@@ -10,12 +10,13 @@ ghost use mathlib.Core.Path.{_≡_};
 ghost use mathlib.Core.Bool.{false};
 ghost use Prim.Native.Nat.{_+_, _*_, _≤_, _<_};
 ghost use lib.ListN.{length};
+ghost use Rattle.basics.specs.Loan.{given, final};
 ghost use Rattle.config.specs.Configuration.{states};
 ghost use Rattle.config.specs.Known.{Valid};
 ghost use Rattle.tally.specs.Entries.{tables};
-ghost use Rattle.calibrator.specs.Record.{memory};
+ghost use Rattle.calibrator.specs.Record.{came, remains};
 ghost use Rattle.calibrator.specs.Observe.{broken, wrongLengths};
-ghost use Rattle.layout.specs.Layout.{cells, imageLength, header, image, configIn, recordIn, memoryIn};
+ghost use Rattle.layout.specs.Layout.{cells, imageLength, image, configIn, recordIn, memoryIn};
 ghost use Rattle.image.specs.Image.{endSave, saved, saveRefusal, endRestore, restored, heldRefusal, restoreRefusal, Readable};
 
 // Whether a last quote would be refused by 2, 3 or 4.
@@ -40,7 +41,7 @@ fn check_save(
     c: MicroPriceConfig,
     long: usize,
 ) -> Check
-    ensures { λ r. ⌜ r ≡ saveRefusal c (memory rec (now (stay .entry)) (now (moved .entry)) (now (totals .entry))) long ⌝ }
+    ensures { λ r. ⌜ r ≡ saveRefusal c (came rec stay moved totals) long ⌝ }
 {
     let room = calibrator::inner::check_room(c, stay.len(), moved.len(), totals.len());
     let Check::Fine = room else {
@@ -66,7 +67,7 @@ fn write_image(
     out: &mut [u8],
 )
     requires { ⌜ Valid c × (wrongLengths (states c) (length (now stay)) (length (now moved)) (length (now totals)) ≡ false) × (length (now out) ≡ imageLength c) ⌝ }
-    ensures { λ _. ⌜ now (out .exit) ≡ image c (memory rec (now (stay .entry)) (now (moved .entry)) (now (totals .entry))) ⌝ }
+    ensures { λ _. ⌜ final out ≡ image c (came rec stay moved totals) ⌝ }
 {
     let cells = layout::cell_count(c);
     let h = layout::header_words(c, rec);
@@ -85,7 +86,7 @@ pub fn save(
     config: MicroPriceConfig,
     out: &mut [u8],
 ) -> Check
-    ensures { λ r. ⌜ endSave r (now (out .exit)) ≡ saved config (memory rec (now (stay .entry)) (now (moved .entry)) (now («move_half_ticks» .entry))) (now (out .entry)) ⌝ }
+    ensures { λ r. ⌜ endSave r (final out) ≡ saved config (came rec stay moved «move_half_ticks») (given out) ⌝ }
 {
     let k = check_save(rec, stay, moved, move_half_ticks, config, out.len());
     let Check::Fine = k else {
@@ -105,7 +106,7 @@ fn check_held(
     totals: &[i64],
 ) -> Check
     requires { ⌜ Valid c × (c ≡ configIn (now b)) × (rec ≡ recordIn (now b)) × (length (now b) ≡ imageLength c) ⌝ }
-    ensures { λ r. ⌜ r ≡ heldRefusal (now (b .entry)) (tables (now (stay .entry)) (now (moved .entry)) (now (totals .entry))) ⌝ }
+    ensures { λ r. ⌜ r ≡ heldRefusal (given b) (tables (given stay) (given moved) (given totals)) ⌝ }
 {
     let n = config::inner::state_count(c);
     if calibrator::inner::wrong_lengths(n, stay.len(), moved.len(), totals.len()) {
@@ -127,7 +128,7 @@ fn check_held(
 
 // What refuses an image, judged on its bytes before anything is written.
 fn check_restore(b: &[u8], stay: &[u64], moved: &[u64], totals: &[i64]) -> Check
-    ensures { λ r. ⌜ r ≡ restoreRefusal (now (b .entry)) (tables (now (stay .entry)) (now (moved .entry)) (now (totals .entry))) ⌝ }
+    ensures { λ r. ⌜ r ≡ restoreRefusal (given b) (tables (given stay) (given moved) (given totals)) ⌝ }
 {
     if b.len() < layout::HEADER {
         return Check::Refused(Refusal::ImageLayout);
@@ -145,7 +146,7 @@ fn check_restore(b: &[u8], stay: &[u64], moved: &[u64], totals: &[i64]) -> Check
 
 fn read_tables(b: &[u8], stay: &mut [u64], moved: &mut [u64], totals: &mut [i64])
     requires { ⌜ Readable (now b) (length (now stay)) (length (now moved)) (length (now totals)) ⌝ }
-    ensures { λ _. ⌜ tables (now (stay .exit)) (now (moved .exit)) (now (totals .exit)) ≡ memoryIn (now (b .entry)) .counts .tables ⌝ }
+    ensures { λ _. ⌜ tables (final stay) (final moved) (final totals) ≡ memoryIn (given b) .counts .tables ⌝ }
 {
     let cells = stay.len();
     words::get_table(b, layout::HEADER, stay);
@@ -161,7 +162,7 @@ pub fn restore(
     moved: &mut [u64],
     move_half_ticks: &mut [i64],
 ) -> RestoreDone
-    ensures { λ d. ⌜ endRestore (d .answer) (memory (d .next) (now (stay .exit)) (now (moved .exit)) (now («move_half_ticks» .exit))) ≡ restored (now (image .entry)) (memory rec (now (stay .entry)) (now (moved .entry)) (now («move_half_ticks» .entry))) ⌝ }
+    ensures { λ d. ⌜ endRestore (d .answer) (remains (d .next) stay moved «move_half_ticks») ≡ restored (given image) (came rec stay moved «move_half_ticks») ⌝ }
 {
     let k = check_restore(image, stay, moved, move_half_ticks);
     if let Check::Refused(refusal) = k {

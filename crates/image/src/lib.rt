@@ -7,7 +7,8 @@ use refusals::Refusal;
 pub mod inner;
 
 ghost use mathlib.Core.Path.{_≡_};
-ghost use Rattle.calibrator.specs.Record.{memory};
+ghost use Rattle.basics.specs.Loan.{given, final};
+ghost use Rattle.calibrator.specs.Record.{came, remains};
 ghost use Rattle.image.specs.Image.{endSave, saved, endRestore, restored};
 
 // What restore answers.
@@ -31,7 +32,7 @@ pub fn save(
     config: MicroPriceConfig,
     out: &mut [u8],
 ) -> Check
-    ensures { λ r. ⌜ endSave r (now (out .exit)) ≡ saved config (memory (now (rec .entry)) (now (stay .entry)) (now (moved .entry)) (now («move_half_ticks» .entry))) (now (out .entry)) ⌝ }
+    ensures { λ r. ⌜ endSave r (final out) ≡ saved config (came (given rec) stay moved «move_half_ticks») (given out) ⌝ }
 {
     inner::save(*rec, stay, moved, move_half_ticks, config, out)
 }
@@ -44,7 +45,7 @@ pub fn restore(
     moved: &mut [u64],
     move_half_ticks: &mut [i64],
 ) -> Restored
-    ensures { λ r. ⌜ endRestore r (memory (now (rec .exit)) (now (stay .exit)) (now (moved .exit)) (now («move_half_ticks» .exit))) ≡ restored (now (image .entry)) (memory (now (rec .entry)) (now (stay .entry)) (now (moved .entry)) (now («move_half_ticks» .entry))) ⌝ }
+    ensures { λ r. ⌜ endRestore r (remains (final rec) stay moved «move_half_ticks») ≡ restored (given image) (came (given rec) stay moved «move_half_ticks») ⌝ }
 {
     let done = inner::restore(*rec, image, stay, moved, move_half_ticks);
     *rec = done.next;

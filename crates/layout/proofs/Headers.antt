@@ -8,7 +8,7 @@ use lib.Dec.{eqb}
 use lib.ListN.{length, getD, drop, drop-of-length-le}
 use lib.Seq.{drop-cons, drop-drop}
 use borrow.Author.Tests.{eqb-true}
-use Rattle.basics.proofs.Tests.{both}
+use Rattle.basics.proofs.Tests.{zero-not-one, both}
 use Rattle.words.specs.Words.{wordsOf, wordAt}
 use Rattle.config.specs.declared.MicroPriceConfig.{MicroPriceConfig}
 use Rattle.tally.specs.Entries.{tables}
@@ -20,12 +20,15 @@ pub same-start : (b h : List ℕ) → sameWords (headerIn b) h ≡ sameWords (wo
 unfolding headerIn
 same-start b h = refl
 
-pub same-step : (b h : List ℕ) (i : ℕ) → i < 20 → length h ≡ 20 → sameWords (wordsOf (20 - i) (drop (8 * i) b)) (drop i h) ≡ (eqb (wordAt b (8 * i)) (getD h i 0) && sameWords (wordsOf (20 - (i + 1)) (drop (8 * (i + 1)) b)) (drop (i + 1) h))
+pub same-step : (b h : List ℕ) (i : ℕ) → i < 20 → length h ≡ 20
+    → sameWords (wordsOf (20 - i) (drop (8 * i) b)) (drop i h) ≡
+    (eqb (wordAt b (8 * i)) (getD h i 0) && sameWords (wordsOf (20 - (i + 1)) (drop (8 * (i + 1)) b)) (drop (i + 1) h))
 same-step b h i l e =
     let n : 20 - i ≡ suc (20 - (i + 1)) = omega arith in
     let k : suc i ≡ i + 1 = omega arith in
     let d : drop i h ≡ getD h i 0 ∷ drop (i + 1) h = drop-cons h i 0 (omega arith) ∙ ap (λ (j : ℕ). getD h i 0 ∷ drop j h) k in
-    let w : drop 8 (drop (8 * i) b) ≡ drop (8 * (i + 1)) b = drop-drop 8 (8 * i) b ∙ ap (λ (j : ℕ). drop j b) (let s : 8 * i + 8 ≡ 8 * (i + 1) = omega arith in s) in
+    let w : drop 8 (drop (8 * i) b) ≡ drop (8 * (i + 1)) b =
+    drop-drop 8 (8 * i) b ∙ ap (λ (j : ℕ). drop j b) (let s : 8 * i + 8 ≡ 8 * (i + 1) = omega arith in s) in
     rw (n, d, w)
 
 pub same-end : (b h : List ℕ) (i : ℕ) → 20 ≤ i → length h ≡ 20 → sameWords (wordsOf (20 - i) (drop (8 * i) b)) (drop i h) ≡ true
@@ -35,13 +38,15 @@ same-end b h i l e =
 
 pub same-equal : (xs ys : List ℕ) → sameWords xs ys ≡ true → xs ≡ ys
 same-equal [] [] e = refl
-same-equal [] (y ∷ ys) e = absurd (let z : _≡_ {A = ℕ} 0 1 = cc in omega arith)
-same-equal (x ∷ xs) [] e = absurd (let z : _≡_ {A = ℕ} 0 1 = cc in omega arith)
+same-equal [] (y ∷ ys) e = absurd (zero-not-one cc)
+same-equal (x ∷ xs) [] e = absurd (zero-not-one cc)
 same-equal (x ∷ xs) (y ∷ ys) e =
     let p = both (eqb x y) (sameWords xs ys) e in
     λ i. eqb-true x y (p .0) i ∷ same-equal xs ys (p .1) i
 
 -- the test of the layout as code makes it
-pub laid-out-is : (b : List ℕ) (c : MicroPriceConfig) (r : Record) (h : List ℕ) (s : Bool) (long : ℕ) → c ≡ configIn b → r ≡ recordIn b → h ≡ header c (r .previous) (countsOf (r .counters) (tables [] [] [])) → s ≡ sameWords (headerIn b) h → long ≡ imageLength c → (s && eqb (length b) long) ≡ laidOut b
+pub laid-out-is : (b : List ℕ) (c : MicroPriceConfig) (r : Record) (h : List ℕ) (s : Bool) (long : ℕ) → c ≡ configIn b → r ≡ recordIn b
+    → h ≡ header c (r .previous) (countsOf (r .counters) (tables [] [] [])) → s ≡ sameWords (headerIn b) h → long ≡ imageLength c
+    → (s && eqb (length b) long) ≡ laidOut b
 unfolding header
 laid-out-is b c r h s long ec er eh es el = rw (es, eh, el, ec, er)

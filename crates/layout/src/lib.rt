@@ -8,6 +8,7 @@ ghost use mathlib.Core.Path.{_≡_};
 ghost use mathlib.Core.List.{[]};
 ghost use Prim.Native.Nat.{_≤_};
 ghost use lib.ListN.{length};
+ghost use Rattle.basics.specs.Loan.{given};
 ghost use Rattle.config.specs.Known.{Valid};
 ghost use Rattle.tally.specs.Entries.{tables};
 ghost use Rattle.calibrator.specs.Record.{countsOf};
@@ -78,7 +79,7 @@ pub fn image_length(c: MicroPriceConfig) -> usize
 
 pub fn config_in(b: &[u8]) -> MicroPriceConfig
     requires { ⌜ headerLength ≤ length (now b) ⌝ }
-    ensures { λ r. ⌜ r ≡ configIn (now (b .entry)) ⌝ }
+    ensures { λ r. ⌜ r ≡ configIn (given b) ⌝ }
 {
     let n = words::get_word(b, 8);
     let s = words::get_word(b, 16);
@@ -92,7 +93,7 @@ pub fn config_in(b: &[u8]) -> MicroPriceConfig
 
 fn quote_in(b: &[u8]) -> TopOfBook
     requires { ⌜ headerLength ≤ length (now b) ⌝ }
-    ensures { λ r. ⌜ r ≡ quoteIn (now (b .entry)) ⌝ }
+    ensures { λ r. ⌜ r ≡ quoteIn (given b) ⌝ }
 {
     let timestamp_ms = words::get_word(b, 80);
     let bid = words::get_word(b, 88);
@@ -110,7 +111,7 @@ fn quote_in(b: &[u8]) -> TopOfBook
 
 fn previous_in(b: &[u8]) -> Previous
     requires { ⌜ headerLength ≤ length (now b) ⌝ }
-    ensures { λ r. ⌜ r ≡ previousIn (now (b .entry)) ⌝ }
+    ensures { λ r. ⌜ r ≡ previousIn (given b) ⌝ }
 {
     let flag = words::get_word(b, 72);
     if flag == 1 {
@@ -121,7 +122,7 @@ fn previous_in(b: &[u8]) -> Previous
 
 pub fn record_in(b: &[u8]) -> Record
     requires { ⌜ headerLength ≤ length (now b) ⌝ }
-    ensures { λ r. ⌜ r ≡ recordIn (now (b .entry)) ⌝ }
+    ensures { λ r. ⌜ r ≡ recordIn (given b) ⌝ }
 {
     let previous = previous_in(b);
     let pairs = words::get_word(b, 120);
@@ -141,7 +142,7 @@ pub fn record_in(b: &[u8]) -> Record
 
 fn same_words(b: &[u8], h: &[u64]) -> bool
     requires { ⌜ (headerLength ≤ length (now b)) × (length (now h) ≡ 20) ⌝ }
-    ensures { λ r. ⌜ r ≡ sameWords (headerIn (now (b .entry))) (now (h .entry)) ⌝ }
+    ensures { λ r. ⌜ r ≡ sameWords (headerIn (given b)) (given h) ⌝ }
 {
     let mut i: usize = 0;
     while i < 20 {
@@ -155,7 +156,7 @@ fn same_words(b: &[u8], h: &[u64]) -> bool
 
 pub fn is_laid_out(b: &[u8], c: MicroPriceConfig, rec: Record) -> bool
     requires { ⌜ Valid c × (headerLength ≤ length (now b)) × (c ≡ configIn (now b)) × (rec ≡ recordIn (now b)) ⌝ }
-    ensures { λ r. ⌜ r ≡ laidOut (now (b .entry)) ⌝ }
+    ensures { λ r. ⌜ r ≡ laidOut (given b) ⌝ }
 {
     let h = header_words(c, rec);
     let same = same_words(b, &h);

@@ -1,4 +1,5 @@
--- Only the cells of n rows of w count: matrices that agree there have answers that agree there. For a caller whose definition is a matrix and whose list holds it.
+-- Only the cells of n rows of w count: matrices that agree there have answers that agree there. For a caller whose definition is a matrix and whose list holds
+-- it.
 use Prim.Native.Nat.{ℕ, zero, suc, _+_, _-_, _<_, _≤_}
 use mathlib.Core.Path.{_≡_, refl, sym, ap, _∙_}
 use mathlib.Core.Bool.{Bool, true, false, cond}
@@ -33,7 +34,8 @@ module _ (F : Arith) (n w : ℕ) (narrow : n ≤ w) where
   pivot-same A B h c zero hm = refl
   pivot-same A B h c (suc m) hm = go _ _ (pivot-same A B h c m (omega arith)) (pivot-within F B c m .1)
     where
-      go : (x y : ℕ) → x ≡ y → y ≤ c + m → cond (asGreat (size (A x c)) (size (A (c + suc m) c))) (c + suc m) x ≡ cond (asGreat (size (B y c)) (size (B (c + suc m) c))) (c + suc m) y
+      go : (x y : ℕ) → x ≡ y → y ≤ c + m
+          → cond (asGreat (size (A x c)) (size (A (c + suc m) c))) (c + suc m) x ≡ cond (asGreat (size (B y c)) (size (B (c + suc m) c))) (c + suc m) y
       go x y e q = rw (e, h y c (omega arith) (omega arith), h (c + suc m) c hm (omega arith))
 
   swapped-same : (A B : Matrix F) → Same n w A B → (c p : ℕ) → c < n → p < n → Same n w (swapped F A c p) (swapped F B c p)
@@ -58,12 +60,14 @@ module _ (F : Arith) (n w : ℕ) (narrow : n ≤ w) where
   unfolding columnSolved
   column-same A B h c hc = go _ _ (pivot-same A B h c (n - (c + 1)) (omega arith)) (omega (arith, pivot-within F B c (n - (c + 1))))
     where
-      both : (p : ℕ) → p < n → (b : Bool) → SameAnswer n w (cond b (singular A) (solved (reduced F (swapped F A c p) c))) (cond b (singular B) (solved (reduced F (swapped F B c p) c)))
+      both : (p : ℕ) → p < n → (b : Bool)
+          → SameAnswer n w (cond b (singular A) (solved (reduced F (swapped F A c p) c))) (cond b (singular B) (solved (reduced F (swapped F B c p) c)))
       both p hp true = h
       both p hp false = reduced-same (swapped F A c p) (swapped F B c p) (swapped-same A B h c p hc hp) c hc
 
       go : (x p : ℕ) → x ≡ p → p < n
-          → SameAnswer n w (cond (isTiny (size (A x c))) (singular A) (solved (reduced F (swapped F A c x) c))) (cond (isTiny (size (B p c))) (singular B) (solved (reduced F (swapped F B c p) c)))
+          → SameAnswer n w (cond (isTiny (size (A x c))) (singular A) (solved (reduced F (swapped F A c x) c)))
+          (cond (isTiny (size (B p c))) (singular B) (solved (reduced F (swapped F B c p) c)))
       go x p e hp = rw (e, h p c hp (omega arith)) (both p hp (isTiny (size (B p c))))
 
   columns-same : (A B : Matrix F) → Same n w A B → (m : ℕ) → m ≤ n → SameAnswer n w (columnsSolved F n A m) (columnsSolved F n B m)

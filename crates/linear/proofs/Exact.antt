@@ -1,4 +1,5 @@
--- Elimination in exact arithmetic solves its equations: where `gaussJordan` answers `solved B` for A, the first n columns of B are the identity, and column j of B is the one solution x of (A's first n columns) x = column j of A.
+-- Elimination in exact arithmetic solves its equations: where `gaussJordan` answers `solved B` for A, the first n columns of B are the identity, and column j
+-- of B is the one solution x of (A's first n columns) x = column j of A.
 use mathlib.Core.Path.{_≡_, refl, sym, ap, _∙_, subst}
 use mathlib.Core.Logic.{_≢_, _↔_, ⊎-elim}
 use mathlib.Core.Bool.{Bool, true, false, cond, true≢false}
@@ -7,6 +8,7 @@ use native.Mathlib.Nat.{eq-or-lt-of-le}
 use native.Mathlib.Omega.{arith}
 use lib.Dec.{eqb}
 use borrow.Author.Tests.{eqb-true, eq-eqb, ne-eqb, lt-ltb, le-ltb}
+use Rattle.basics.proofs.Tests.{zero-not-one}
 use Rattle.linear.specs.Arithmetic.{Arith}
 use Rattle.linear.specs.Elimination.{Answer, solved, singular, matrixOf, andThen, Matrix, system, pivotRow, swapped, normalized, cleared, reduced, columnSolved, columnsSolved, gaussJordan}
 use Rattle.linear.specs.Exact.{IsExact, sum, unit, Solves, Expected}
@@ -76,7 +78,8 @@ module _ (F : Arith) (E : IsExact F) where
   sum-scaled : (n : ℕ) (b : Num) (v x : ℕ → Num) → sum F n (λ k. b ⊗ v k ⊗ x k) ≡ b ⊗ sum F n (λ k. v k ⊗ x k)
   unfolding sum
   sum-scaled zero b v x = sym (⊗-zero b)
-  sum-scaled (suc n) b v x = ap (λ s. s ⊕ b ⊗ v n ⊗ x n) (sum-scaled n b v x) ∙ ap (λ s. b ⊗ sum F n (λ k. v k ⊗ x k) ⊕ s) (⊗-assoc b (v n) (x n)) ∙ sym (⊗-⊕ b _ _)
+  sum-scaled (suc n) b v x = ap (λ s. s ⊕ b ⊗ v n ⊗ x n) (sum-scaled n b v x) ∙ ap (λ s. b ⊗ sum F n (λ k. v k ⊗ x k) ⊕ s) (⊗-assoc b (v n) (x n))
+      ∙ sym (⊗-⊕ b _ _)
 
   sum-plus : (n : ℕ) (u v x : ℕ → Num) → sum F n (λ k. (u k ⊕ v k) ⊗ x k) ≡ sum F n (λ k. u k ⊗ x k) ⊕ sum F n (λ k. v k ⊗ x k)
   unfolding sum
@@ -201,7 +204,7 @@ module _ (F : Arith) (E : IsExact F) where
 
   -- ---- all columns
   singular-not : (A B : Matrix F) → singular A ≡ solved B → ⊥
-  singular-not A B e = let z : _≡_ {A = ℕ} 0 1 = cc in omega arith
+  singular-not A B e = zero-not-one cc
 
   -- B has the solutions of A, and its first c columns are unit columns
   abbrev After : ℕ → Matrix F → ℕ → Matrix F → Type 0
@@ -239,10 +242,12 @@ module _ (F : Arith) (E : IsExact F) where
 
   columns-after : (n : ℕ) (A B : Matrix F) (c : ℕ) → c ≤ n → columnsSolved F n A c ≡ solved B → After n A c B
   unfolding columnsSolved
-  columns-after n A B zero hc e = subst (λ (D : Matrix F). After n A zero D) (ap matrixOf e) ((λ j x. ((λ h. h), (λ h. h))), (λ r k hr hk. absurd (omega arith)))
+  columns-after n A B zero hc e =
+      subst (λ (D : Matrix F). After n A zero D) (ap matrixOf e) ((λ j x. ((λ h. h), (λ h. h))), (λ r k hr hk. absurd (omega arith)))
   columns-after n A B (suc c) hc e = go (columnsSolved F n A c) (λ C q. columns-after n A C c (omega arith) q) refl e
     where
-      go : (a : Answer Num) → ((C : Matrix F) → columnsSolved F n A c ≡ solved C → After n A c C) → columnsSolved F n A c ≡ a → andThen a (λ C. columnSolved F n C c) ≡ solved B → After n A (suc c) B
+      go : (a : Answer Num) → ((C : Matrix F) → columnsSolved F n A c ≡ solved C → After n A c C) → columnsSolved F n A c ≡ a
+          → andThen a (λ C. columnSolved F n C c) ≡ solved B → After n A (suc c) B
       go (solved C) ih q f = column-after n A C B c hc (ih C q) f
       go (singular C) ih q f = absurd (singular-not C B f)
 
@@ -300,11 +305,13 @@ module _ (F : Arith) (E : IsExact F) where
       parts : (r : ℕ) → r < n → sum F n (λ k. A r k ⊗ x k) ⊕ sum F n (λ k. Q r k ⊗ x k) ≡ x r
       parts r hr =
           sym (sum-plus n (A r) (Q r) x)
-          ∙ sum-same n (λ k. (A r k ⊕ Q r k) ⊗ x k) (λ k. unit F r k ⊗ x k) (λ k hk. ap (λ t. t ⊗ x k) (ap (λ t. t ⊕ Q r k) (is r k hr hk) ∙ ⊖-⊕ (unit F r k) (Q r k)))
+          ∙ sum-same n (λ k. (A r k ⊕ Q r k) ⊗ x k) (λ k. unit F r k ⊗ x k)
+          (λ k hk. ap (λ t. t ⊗ x k) (ap (λ t. t ⊕ Q r k) (is r k hr hk) ∙ ⊖-⊕ (unit F r k) (Q r k)))
           ∙ unit-row n (unit F) (λ r k hr hk. refl) x r hr
 
   -- elimination of such a system gives the one x with x = column j + Q x
-  pub solved-one-less : (n : ℕ) (A B Q : Matrix F) → ((r k : ℕ) → r < n → k < n → A r k ≡ unit F r k ⊖ Q r k) → gaussJordan F n A ≡ solved B → (j : ℕ) (x : ℕ → Num)
+  pub solved-one-less : (n : ℕ) (A B Q : Matrix F) → ((r k : ℕ) → r < n → k < n → A r k ≡ unit F r k ⊖ Q r k) → gaussJordan F n A ≡ solved B
+      → (j : ℕ) (x : ℕ → Num)
       → ((r : ℕ) → r < n → x r ≡ A r j ⊕ sum F n (λ k. Q r k ⊗ x k)) ↔ ((r : ℕ) → r < n → x r ≡ B r j)
   solved-one-less n A B Q is e j x = (
     (λ s. solved-solves n A B e j x .0 (one-less n A Q is j x .1 s)),
@@ -338,7 +345,8 @@ module _ (F : Arith) (E : IsExact F) where
         let e : n + 2 + y - (n + 2) ≡ y = omega arith in
         rw (le-ltb (n + 2 + y) n (omega arith), ne-eqb (n + 2 + y) n (omega arith), ne-eqb (n + 2 + y) (n + 1) (omega arith), e)
 
-    expected : (B : Matrix F) → gaussJordan F n A ≡ solved B → (j : ℕ) (b : ℕ → Num) → ((r : ℕ) → A r j ≡ b r) → (x : ℕ → Num) → Expected F n Q b x ↔ ((r : ℕ) → r < n → x r ≡ B r j)
+    expected : (B : Matrix F) → gaussJordan F n A ≡ solved B → (j : ℕ) (b : ℕ → Num) → ((r : ℕ) → A r j ≡ b r) → (x : ℕ → Num)
+        → Expected F n Q b x ↔ ((r : ℕ) → r < n → x r ≡ B r j)
     expected B e j b is x =
         let h = solved-one-less n A B Q system-left e j x in (
           (λ s. h .0 (λ r hr. s r hr ∙ ap (λ t. t ⊕ sum F n (λ k. Q r k ⊗ x k)) (sym (is r)))),
@@ -349,4 +357,5 @@ module _ (F : Arith) (E : IsExact F) where
         → (Expected F n Q K x ↔ ((r : ℕ) → r < n → x r ≡ B r n))
         × (Expected F n Q fallback x ↔ ((r : ℕ) → r < n → x r ≡ B r (n + 1)))
         × ((y : ℕ) → Expected F n Q (λ r. T r y) x ↔ ((r : ℕ) → r < n → x r ≡ B r (n + 2 + y)))
-    system-solves B e x = (expected B e n K system-K x, expected B e (n + 1) fallback system-fallback x, (λ y. expected B e (n + 2 + y) (λ r. T r y) (λ r. system-T r y) x))
+    system-solves B e x =
+        (expected B e n K system-K x, expected B e (n + 1) fallback system-fallback x, (λ y. expected B e (n + 2 + y) (λ r. T r y) (λ r. system-T r y) x))

@@ -19,11 +19,14 @@ abbrev pub frac : Ratio → Fraction
 frac x = Quot·mk x
 
 -- a function of two ratios that alike ratios do not change, of two fractions
-module _ {C : Type 0} (set : IsSet C) (f : Ratio → Ratio → C) (left : (x x′ y : Ratio) → Alike x x′ → f x y ≡ f x′ y) (right : (x y y′ : Ratio) → Alike y y′ → f x y ≡ f x y′) where
+module _ {C : Type 0} (set : IsSet C) (f : Ratio → Ratio → C) (left : (x x′ y : Ratio) → Alike x x′ → f x y ≡ f x′ y)
+    (right : (x y y′ : Ratio) → Alike y y′ → f x y ≡ f x y′) where
   abbrev pub lifted : Fraction → Fraction → C
   lifted x y =
       Quot·lift {r = Alike} set (λ a. Quot·lift {r = Alike} set (λ b. f a b) (λ b b′ h. right a b b′ h) y)
-      (λ a a′ h. ind {r = Alike} {β = λ y. Quot·lift {r = Alike} set (λ b. f a b) (λ b b′ h. right a b b′ h) y ≡ Quot·lift {r = Alike} set (λ b. f a′ b) (λ b b′ h. right a′ b b′ h) y} (λ y. set _ _) (λ b. left a a′ b h) y)
+      (λ a a′ h. ind {r = Alike}
+      {β = λ y. Quot·lift {r = Alike} set (λ b. f a b) (λ b b′ h. right a b b′ h) y ≡ Quot·lift {r = Alike} set (λ b. f a′ b) (λ b b′ h. right a′ b b′ h) y}
+      (λ y. set _ _) (λ b. left a a′ b h) y)
       x
 
 abbrev pub _⊞_ : Fraction → Fraction → Fraction
@@ -77,7 +80,8 @@ eq1 f g h = ind {β = λ x. f x ≡ g x} (λ x. Quot-set (f x) (g x)) h
 eq2 : (f g : Fraction → Fraction → Fraction) → ((a b : Ratio) → f (frac a) (frac b) ≡ g (frac a) (frac b)) → (x y : Fraction) → f x y ≡ g x y
 eq2 f g h x y = eq1 (λ x. f x y) (λ x. g x y) (λ a. eq1 (f (frac a)) (g (frac a)) (h a) y) x
 
-eq3 : (f g : Fraction → Fraction → Fraction → Fraction) → ((a b c : Ratio) → f (frac a) (frac b) (frac c) ≡ g (frac a) (frac b) (frac c)) → (x y z : Fraction) → f x y z ≡ g x y z
+eq3 : (f g : Fraction → Fraction → Fraction → Fraction) → ((a b c : Ratio) → f (frac a) (frac b) (frac c) ≡ g (frac a) (frac b) (frac c)) → (x y z : Fraction)
+    → f x y z ≡ g x y z
 eq3 f g h x y z = eq1 (λ x. f x y z) (λ x. g x y z) (λ a. eq2 (f (frac a)) (g (frac a)) (h a) y z) x
 
 alike : (a b : Ratio) → Alike a b → frac a ≡ frac b
@@ -111,7 +115,9 @@ scaled : (u m d v n e k : ℕ) → v ≡ u * k → n ≡ m * k → e ≡ d * k �
 scaled u m d v n e k hv hn he = rw (hv, hn, he) (omega arith)
 
 pub ⊠-⊞ : (x y z : Fraction) → x ⊠ (y ⊞ z) ≡ x ⊠ y ⊞ x ⊠ z
-⊠-⊞ = eq3 (λ x y z. x ⊠ (y ⊞ z)) (λ x y z. x ⊠ y ⊞ x ⊠ z) (λ a b c. alike (times a (plus b c)) (plus (times a b) (times a c)) (scaled _ _ _ _ _ _ (a .over) (omega arith) (omega arith) (omega arith)))
+⊠-⊞ =
+    eq3 (λ x y z. x ⊠ (y ⊞ z)) (λ x y z. x ⊠ y ⊞ x ⊠ z)
+    (λ a b c. alike (times a (plus b c)) (plus (times a b) (times a c)) (scaled _ _ _ _ _ _ (a .over) (omega arith) (omega arith) (omega arith)))
 
 ordered : (x y : Ratio) → leRatio x y ≡ true → x .up * y .over + y .down * x .over ≤ y .up * x .over + x .down * y .over
 ordered x y e = leb-true _ _ e
@@ -119,10 +125,13 @@ ordered x y e = leb-true _ _ e
 pub zero-is : (x : Fraction) → exact .isZero x ≡ true → x ≡ frac (whole 0)
 zero-is =
     ind {β = λ x. exact .isZero x ≡ true → x ≡ frac (whole 0)} (λ x. Π-prop (λ h. Quot-set x (frac (whole 0))))
-    (λ a h. let t = both (leRatio a (whole 0)) (leRatio (whole 0) a) h in alike a (whole 0) (omega (arith, ordered a (whole 0) (t .0), ordered (whole 0) a (t .1))))
+    (λ a h. let t = both (leRatio a (whole 0)) (leRatio (whole 0) a) h in
+    alike a (whole 0) (omega (arith, ordered a (whole 0) (t .0), ordered (whole 0) a (t .1))))
 
 -- one number more than the other by a, not 0
-flip-up : (m a d : ℕ) → 0 < a → ((m + a) * (d * (m + a)) + m * (d * m)) * 1 + 0 * (d * square (gap (m + a) m)) ≡ 1 * (d * square (gap (m + a) m)) + ((m + a) * (d * m) + m * (d * (m + a))) * 1
+flip-up : (m a d : ℕ) → 0 < a
+    → ((m + a) * (d * (m + a)) + m * (d * m)) * 1 + 0 * (d * square (gap (m + a) m)) ≡ 1 * (d * square (gap (m + a) m)) +
+    ((m + a) * (d * m) + m * (d * (m + a))) * 1
 flip-up m a d h = rw (g, no) (omega arith)
   where
     g : gap (m + a) m ≡ a
@@ -134,10 +143,13 @@ flip-up m a d h = rw (g, no) (omega arith)
 flip-one : (u m d : ℕ) → m < u → (u * (d * u) + m * (d * m)) * 1 + 0 * (d * square (gap u m)) ≡ 1 * (d * square (gap u m)) + (u * (d * m) + m * (d * u)) * 1
 flip-one u m d h =
     let e : m + (u - m) ≡ u = omega arith in
-    subst (λ (u : ℕ). (u * (d * u) + m * (d * m)) * 1 + 0 * (d * square (gap u m)) ≡ 1 * (d * square (gap u m)) + (u * (d * m) + m * (d * u)) * 1) e (flip-up m (u - m) d (omega arith))
+    subst (λ (u : ℕ). (u * (d * u) + m * (d * m)) * 1 + 0 * (d * square (gap u m)) ≡ 1 * (d * square (gap u m)) + (u * (d * m) + m * (d * u)) * 1) e
+    (flip-up m (u - m) d (omega arith))
 
 pub ⊠-inverse : (x : Fraction) → x ≢ frac (whole 0) → x ⊠ inverse x ≡ frac (whole 1)
-⊠-inverse = ind {β = λ x. x ≢ frac (whole 0) → x ⊠ inverse x ≡ frac (whole 1)} (λ x. Π-prop (λ h. Quot-set (x ⊠ inverse x) (frac (whole 1)))) (λ a h. alike (times a (flip a)) (whole 1) (at a h))
+⊠-inverse =
+    ind {β = λ x. x ≢ frac (whole 0) → x ⊠ inverse x ≡ frac (whole 1)} (λ x. Π-prop (λ h. Quot-set (x ⊠ inverse x) (frac (whole 1))))
+    (λ a h. alike (times a (flip a)) (whole 1) (at a h))
   where
     at : (a : Ratio) → frac a ≢ frac (whole 0) → Alike (times a (flip a)) (whole 1)
     at a h = go (eqb (a .up) (a .down)) refl (leb (a .up) (a .down)) refl
@@ -160,7 +172,8 @@ pub ⊠-inverse : (x : Fraction) → x ≢ frac (whole 0) → x ⊠ inverse x �
             let ne = eqb-false u m e in
             let q : m ≡ u → ⊥ = λ s. ne (sym s) in
             let le : u ≤ m = leb-true u m f in
-            let k : (m * (d * m) + u * (d * u)) * 1 + 0 * (d * square (gap u m)) ≡ 1 * (d * square (gap u m)) + (m * (d * u) + u * (d * m)) * 1 = rw gaps at (flip-one m u d (omega arith)) in
+            let k : (m * (d * m) + u * (d * u)) * 1 + 0 * (d * square (gap u m)) ≡ 1 * (d * square (gap u m)) + (m * (d * u) + u * (d * m)) * 1 =
+            rw gaps at (flip-one m u d (omega arith)) in
             omega arith
         go false e false f = flip-one u m d (leb-false u m f)
 
@@ -190,7 +203,8 @@ exact-is =
 pub fractions-units : (n : ℕ) (A B : ℕ → ℕ → Fraction) → gaussJordan exact n A ≡ solved B → (r k : ℕ) → r < n → k < n → B r k ≡ unit exact r k
 fractions-units = solved-units exact exact-is
 
-pub fractions-solve : (n : ℕ) (A B : ℕ → ℕ → Fraction) → gaussJordan exact n A ≡ solved B → (j : ℕ) (x : ℕ → Fraction) → Solves exact n A j x ↔ ((r : ℕ) → r < n → x r ≡ B r j)
+pub fractions-solve : (n : ℕ) (A B : ℕ → ℕ → Fraction) → gaussJordan exact n A ≡ solved B → (j : ℕ) (x : ℕ → Fraction)
+    → Solves exact n A j x ↔ ((r : ℕ) → r < n → x r ≡ B r j)
 fractions-solve = solved-solves exact exact-is
 
 -- ---- x + y = 3 and x − y = 1, solved by the definition itself: x = 2 and y = 1

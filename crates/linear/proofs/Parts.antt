@@ -51,8 +51,33 @@ module _ {base k : ℕ} {v : ℕ → Float} {l m : List Float} (f : Filled base 
             getD-set-other m (base + k) i x nan d ∙ f .elsewhere i (⊎-elim (λ q. inl q) (λ q. inr (omega arith)) g);
       }
 
+-- a loop over n places from base on, of which k are filled
+pub record Filling (base n : ℕ) (v : ℕ → Float) (before : List Float) (k : ℕ) (after : List Float) : Type 0 where
+  pub most : k ≤ n
+  pub same-length : length after ≡ length before
+  pub part : Filled base k v before after
+
+pub filling-none : {base n : ℕ} {v : ℕ → Float} {l : List Float} → Filling base n v l 0 l
+filling-none = record { most = omega arith; same-length = refl; part = filled-none }
+
+module _ {base n k : ℕ} {v : ℕ → Float} {l m : List Float} (f : Filling base n v l k m) where
+  pub filling-ahead : (i : ℕ) → base + k ≤ i → at m i ≡ at l i
+  filling-ahead i h = filled-ahead (f .part) i h
+
+  pub filling-more : (x : Float) → k < n → base + n ≤ length l → x ≡ v k → Filling base n v l (k + 1) (set m (base + k) x)
+  filling-more x h room e =
+      record {
+        most = omega arith;
+        same-length = length-set m (base + k) x ∙ f .same-length;
+        part = filled-more (f .part) x (omega (arith, f .same-length)) e;
+      }
+
+  pub filling-all : n ≤ k → Filled base n v l m
+  filling-all h = let all : k ≡ n = omega (arith, f .most) in rw all at (f .part)
+
 -- four more at once
-pub filled-four : {base k : ℕ} {v : ℕ → Float} {l m : List Float} → Filled base k v l m → (a b c d : Float) → base + k + 3 < length m → a ≡ v k → b ≡ v (k + 1) → c ≡ v (k + 2) → d ≡ v (k + 3)
+pub filled-four : {base k : ℕ} {v : ℕ → Float} {l m : List Float} → Filled base k v l m → (a b c d : Float) → base + k + 3 < length m → a ≡ v k → b ≡ v (k + 1)
+    → c ≡ v (k + 2) → d ≡ v (k + 3)
     → Filled base (k + 4) v l (set (set (set (set m (base + k) a) (base + k + 1) b) (base + k + 2) c) (base + k + 3) d)
 filled-four {base} {k} {v} {l} {m} f a b c d h ea eb ec ed =
     let i1 : base + k + 1 ≡ base + (k + 1) = omega arith in

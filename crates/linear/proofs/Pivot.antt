@@ -16,7 +16,8 @@ unfolding pivotRow
 pivot-within F A c zero = (omega arith, omega arith)
 pivot-within F A c (suc m) = go (pivot-within F A c m) (F .asGreat (F .size (A (pivotRow F A c m) c)) (F .size (A (c + suc m) c)))
   where
-    go : (c ≤ pivotRow F A c m) × (pivotRow F A c m ≤ c + m) → (b : Bool) → (c ≤ cond b (c + suc m) (pivotRow F A c m)) × (cond b (c + suc m) (pivotRow F A c m) ≤ c + suc m)
+    go : (c ≤ pivotRow F A c m) × (pivotRow F A c m ≤ c + m) → (b : Bool)
+        → (c ≤ cond b (c + suc m) (pivotRow F A c m)) × (cond b (c + suc m) (pivotRow F A c m) ≤ c + suc m)
     go h true = (omega arith, omega arith)
     go h false = (omega arith, omega arith)
 
@@ -55,7 +56,9 @@ module _
 
   -- row p's size in column c is the greatest from row c to row c + m, and greater than any after it
   abbrev Greatest : Matrix F → ℕ → ℕ → ℕ → Type 0
-  Greatest A c m p = ((r : ℕ) → c ≤ r → r ≤ c + m → asGreat (size (A r c)) (size (A p c)) ≡ true) × ((r : ℕ) → p < r → r ≤ c + m → asGreat (size (A p c)) (size (A r c)) ≡ false)
+  Greatest A c m p =
+      ((r : ℕ) → c ≤ r → r ≤ c + m → asGreat (size (A r c)) (size (A p c)) ≡ true)
+      × ((r : ℕ) → p < r → r ≤ c + m → asGreat (size (A p c)) (size (A r c)) ≡ false)
 
   pub pivot-greatest : (A : Matrix F) (c m : ℕ) → Greatest A c m (pivotRow F A c m)
   unfolding pivotRow
@@ -63,11 +66,14 @@ module _
     (λ r h k. let e : r ≡ c = omega arith in rw e (self (size (A c c)))),
     (λ r h k. absurd (omega arith)),
   )
-  pivot-greatest A c (suc m) = go (pivotRow F A c m) (pivot-within F A c m .1) (pivot-greatest A c m) (asGreat (size (A (pivotRow F A c m) c)) (size (A (c + suc m) c))) refl
+  pivot-greatest A c (suc m) = go (pivotRow F A c m) (pivot-within F A c m .1) (pivot-greatest A c m)
+      (asGreat (size (A (pivotRow F A c m) c)) (size (A (c + suc m) c))) refl
     where
-      go : (p : ℕ) → p ≤ c + m → Greatest A c m p → (b : Bool) → asGreat (size (A p c)) (size (A (c + suc m) c)) ≡ b → Greatest A c (suc m) (cond b (c + suc m) p)
+      go : (p : ℕ) → p ≤ c + m → Greatest A c m p → (b : Bool) → asGreat (size (A p c)) (size (A (c + suc m) c)) ≡ b
+          → Greatest A c (suc m) (cond b (c + suc m) p)
       go p q h true e = (
-        (λ r hr k. ⊎-elim (λ (s : r ≡ c + suc m). rw s (self (size (A (c + suc m) c)))) (λ (s : r < c + suc m). trans _ _ _ (h .0 r hr (omega arith)) e) (eq-or-lt-of-le k)),
+        (λ r hr k. ⊎-elim (λ (s : r ≡ c + suc m). rw s (self (size (A (c + suc m) c)))) (λ (s : r < c + suc m). trans _ _ _ (h .0 r hr (omega arith)) e)
+            (eq-or-lt-of-le k)),
         (λ r hr k. absurd (omega arith)),
       )
       go p q h false e = (

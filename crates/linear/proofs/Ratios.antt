@@ -132,10 +132,12 @@ leb-same a b c d f g = go (leb a b) refl (leb c d) refl
 abbrev pub leRatio : Ratio → Ratio → Bool
 leRatio x y = leb (x .up * y .over + y .down * x .over) (y .up * x .over + x .down * y .over)
 
-moved-left : (x x′ y : Ratio) → Alike x x′ → x .up * y .over + y .down * x .over ≤ y .up * x .over + x .down * y .over → x′ .up * y .over + y .down * x′ .over ≤ y .up * x′ .over + x′ .down * y .over
+moved-left : (x x′ y : Ratio) → Alike x x′ → x .up * y .over + y .down * x .over ≤ y .up * x .over + x .down * y .over
+    → x′ .up * y .over + y .down * x′ .over ≤ y .up * x′ .over + x′ .down * y .over
 moved-left x x′ y e h = le-of-mul-le-mul-right (omega (arith, mul-le-mul-right (x′ .over) h, ap (λ s. s * y .over) e)) (x .some)
 
-moved-right : (x y y′ : Ratio) → Alike y y′ → x .up * y .over + y .down * x .over ≤ y .up * x .over + x .down * y .over → x .up * y′ .over + y′ .down * x .over ≤ y′ .up * x .over + x .down * y′ .over
+moved-right : (x y y′ : Ratio) → Alike y y′ → x .up * y .over + y .down * x .over ≤ y .up * x .over + x .down * y .over
+    → x .up * y′ .over + y′ .down * x .over ≤ y′ .up * x .over + x .down * y′ .over
 moved-right x y y′ e h = le-of-mul-le-mul-right (omega (arith, mul-le-mul-right (y′ .over) h, ap (λ s. s * x .over) e)) (y .some)
 
 pub le-left : (x x′ y : Ratio) → Alike x x′ → leRatio x y ≡ leRatio x′ y
@@ -184,5 +186,6 @@ flip-alike x y h = go (leb (x .down) (x .up)) refl
     go false e =
         let q : x .up < x .down = leb-false (x .down) (x .up) e in
         add-comm _ _
-        ∙ sym (rw (gaps (x .up) (x .down), gaps (y .up) (y .down)) at (flip-half (x .down) (x .up) (x .over) (y .down) (y .up) (y .over) (x .some) (y .some) (omega arith) (omega arith)))
+        ∙ sym (rw (gaps (x .up) (x .down), gaps (y .up) (y .down)) at
+        (flip-half (x .down) (x .up) (x .over) (y .down) (y .up) (y .over) (x .some) (y .some) (omega arith) (omega arith)))
         ∙ add-comm _ _

@@ -1,4 +1,5 @@
--- Numbers with the operations and tests of document 01, "The fit". The definitions are generic in them: binary64 for the code, exact fractions for what elimination means.
+-- Numbers with the operations and tests of document 01, "The fit". The definitions are generic in them: binary64 for the code, exact fractions for what
+-- elimination means.
 use mathlib.Core.Bool.{Bool}
 use lib.Ieee.{Float, binary64, neg, add, sub, mul, div, eq, lt}
 use Rattle.floats.specs.Floats as Floats

@@ -6,6 +6,7 @@ ghost use mathlib.Core.Logic.{_⊎_, _≢_};
 ghost use Prim.Native.Nat.{_+_, _-_, _*_, _<_, _≤_};
 ghost use lib.ListN.{length};
 ghost use lib.Ieee.{binary64, sub, mul, div};
+ghost use Rattle.basics.specs.Loan.{given, final};
 ghost use Rattle.linear.specs.Arithmetic.{rounded};
 ghost use Rattle.linear.specs.Elimination.{pivotRow, cleared, columnSolved, gaussJordan};
 ghost use Rattle.linear.specs.Flat.{from, rowsOf, Eliminated};
@@ -14,7 +15,7 @@ ghost use Rattle.linear.specs.Loops.{Filled, Swapped, ClearedRows};
 // The row of the greatest size in column c, from the diagonal down.
 fn find_pivot(rows: &[f64], n: usize, w: usize, c: usize) -> usize
     requires { ⌜ (c < n) × (n ≤ w) × (n * w ≤ length (now rows)) ⌝ }
-    ensures { λ r. ⌜ (r < n) × (r ≡ pivotRow rounded (rowsOf w (now (rows .entry))) c (n - (c + 1))) ⌝ }
+    ensures { λ r. ⌜ (r < n) × (r ≡ pivotRow rounded (rowsOf w (given rows)) c (n - (c + 1))) ⌝ }
 {
     let mut best = c;
     let mut most = floats::abs(rows[c * w + c]);
@@ -33,7 +34,7 @@ fn find_pivot(rows: &[f64], n: usize, w: usize, c: usize) -> usize
 // Rows c and p change places.
 fn swap_rows(rows: &mut [f64], w: usize, c: usize, p: usize)
     requires { ⌜ (c * w + w ≤ length (now rows)) × (p * w + w ≤ length (now rows)) ⌝ }
-    ensures { λ _. ⌜ Swapped (c * w) (p * w) w (now (rows .entry)) (now (rows .exit)) ⌝ }
+    ensures { λ _. ⌜ Swapped (c * w) (p * w) w (given rows) (final rows) ⌝ }
 {
     if c == p {
         return;
@@ -52,7 +53,7 @@ fn swap_rows(rows: &mut [f64], w: usize, c: usize, p: usize)
 // Divides w floats from `start` on.
 fn divide_row(rows: &mut [f64], w: usize, start: usize, by: f64)
     requires { ⌜ start + w ≤ length (now rows) ⌝ }
-    ensures { λ _. ⌜ Filled start w (λ k. div binary64 (from start (now (rows .entry)) k) by) (now (rows .entry)) (now (rows .exit)) ⌝ }
+    ensures { λ _. ⌜ Filled start w (λ k. div binary64 (from start (given rows) k) by) (given rows) (final rows) ⌝ }
 {
     let mut k = 0;
     while k < w {
@@ -64,7 +65,7 @@ fn divide_row(rows: &mut [f64], w: usize, start: usize, by: f64)
 // A row less `factor` times the row at `top`.
 fn eliminate_row(rows: &mut [f64], w: usize, row: usize, top: usize, factor: f64)
     requires { ⌜ (row + w ≤ length (now rows)) × (top + w ≤ length (now rows)) × ((top + w ≤ row) ⊎ (row + w ≤ top)) ⌝ }
-    ensures { λ _. ⌜ Filled row w (λ k. sub binary64 (from row (now (rows .entry)) k) (mul binary64 factor (from top (now (rows .entry)) k))) (now (rows .entry)) (now (rows .exit)) ⌝ }
+    ensures { λ _. ⌜ Filled row w (λ k. sub binary64 (from row (given rows) k) (mul binary64 factor (from top (given rows) k))) (given rows) (final rows) ⌝ }
 {
     let mut k = 0;
     while k < w {
@@ -76,7 +77,7 @@ fn eliminate_row(rows: &mut [f64], w: usize, row: usize, top: usize, factor: f64
 // Clears column c of row r by row c; a zero factor skips the row.
 fn clear_row(rows: &mut [f64], w: usize, c: usize, r: usize)
     requires { ⌜ (c < w) × (c * w + w ≤ length (now rows)) × (r * w + w ≤ length (now rows)) × (c ≢ r) ⌝ }
-    ensures { λ _. ⌜ Filled (r * w) w (cleared rounded (rowsOf w (now (rows .entry)) r c) (rowsOf w (now (rows .entry)) r) (rowsOf w (now (rows .entry)) c)) (now (rows .entry)) (now (rows .exit)) ⌝ }
+    ensures { λ _. ⌜ Filled (r * w) w (cleared rounded (rowsOf w (given rows) r c) (rowsOf w (given rows) r) (rowsOf w (given rows) c)) (given rows) (final rows) ⌝ }
 {
     let row = r * w;
     let factor = rows[row + c];
@@ -89,7 +90,7 @@ fn clear_row(rows: &mut [f64], w: usize, c: usize, r: usize)
 // Clears column c of rows lo to hi, which lie all below or all above row c: the compiler needs it to see that the two rows are apart.
 fn clear_rows(rows: &mut [f64], w: usize, c: usize, lo: usize, hi: usize)
     requires { ⌜ (c < w) × (lo ≤ hi) × (c * w + w ≤ length (now rows)) × (hi * w ≤ length (now rows)) × ((c < lo) ⊎ (hi ≤ c)) ⌝ }
-    ensures { λ _. ⌜ ClearedRows w c lo hi (now (rows .entry)) (now (rows .exit)) ⌝ }
+    ensures { λ _. ⌜ ClearedRows w c lo hi (given rows) (final rows) ⌝ }
 {
     let mut r = lo;
     while r < hi {
@@ -101,7 +102,7 @@ fn clear_rows(rows: &mut [f64], w: usize, c: usize, lo: usize, hi: usize)
 // Solves column c.
 fn reduce_column(rows: &mut [f64], n: usize, w: usize, c: usize) -> Solve
     requires { ⌜ (c < n) × (n ≤ w) × (n * w ≤ length (now rows)) ⌝ }
-    ensures { λ r. ⌜ Eliminated n w (columnSolved rounded n (rowsOf w (now (rows .entry))) c) (now (rows .entry)) r (now (rows .exit)) ⌝ }
+    ensures { λ r. ⌜ Eliminated n w (columnSolved rounded n (rowsOf w (given rows)) c) (given rows) r (final rows) ⌝ }
 {
     let best = find_pivot(rows, n, w, c);
     if floats::abs(rows[best * w + c]) < 1e-12 {
@@ -119,7 +120,7 @@ fn reduce_column(rows: &mut [f64], n: usize, w: usize, c: usize) -> Solve
 // Reduces the first n columns of n rows of w floats to the identity, in place.
 pub fn gauss_jordan(rows: &mut [f64], n: usize, w: usize) -> Solve
     requires { ⌜ (n ≤ w) × (n * w ≤ length (now rows)) ⌝ }
-    ensures { λ r. ⌜ Eliminated n w (gaussJordan rounded n (rowsOf w (now (rows .entry)))) (now (rows .entry)) r (now (rows .exit)) ⌝ }
+    ensures { λ r. ⌜ Eliminated n w (gaussJordan rounded n (rowsOf w (given rows))) (given rows) r (final rows) ⌝ }
 {
     let mut c = 0;
     while c < n {

@@ -119,7 +119,8 @@ fn minus_zero(n: u64, r: u64, k: u64) -> f64
     0.5
 }
 
-// A cell of the system of a kind: 0 well-behaved, 1 singular, 2 infinities and NaN, 3 equal pivots, 4 zero factors, 5 growing terms, 6 lasting terms, 7 infinities and NaN on the right only, 8 minus zeros.
+// A cell of the system of a kind: 0 well-behaved, 1 singular, 2 infinities and NaN, 3 equal pivots, 4 zero factors, 5 growing terms, 6 lasting terms, 7
+// infinities and NaN on the right only, 8 minus zeros.
 fn cell(kind: u64, n: u64, r: u64, k: u64) -> f64
     requires { ⌜ (n < 32) × (r < 32) × (k < 64) ⌝ }
 {

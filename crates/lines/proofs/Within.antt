@@ -26,7 +26,8 @@ module _ {before left : List ℕ} {at next : ℕ} where
   loosely h p = record { put = p .put; within = let w = p .within in omega arith }
 
 -- one after the other
-pub both : {k m : ℕ} {before mid left : List ℕ} {at i j : ℕ} {xs ys : List ℕ} → PutIn k before at xs i mid → PutIn m mid i ys j left → PutIn (k + m) before at (xs ++ ys) j left
+pub both : {k m : ℕ} {before mid left : List ℕ} {at i j : ℕ} {xs ys : List ℕ} → PutIn k before at xs i mid → PutIn m mid i ys j left
+    → PutIn (k + m) before at (xs ++ ys) j left
 both p q =
     record {
       put = put-both _ _ _ _ _ _ _ _ (p .put) (q .put);
@@ -38,7 +39,8 @@ both p q =
 pub no-rows : {before : List ℕ} {at : ℕ} (t : List ℕ) → PutIn 0 before at (rowLines t 0) at before
 no-rows t = record { put = record { next-is = omega arith; stored = refl }; within = omega arith }
 
-pub row-more : {before mid left : List ℕ} {at j k : ℕ} (t : List ℕ) (i : ℕ) → PutIn (156 * i) before at (rowLines t i) j mid → PutIn 156 mid j (rowLine t i) k left → PutIn (156 * (i + 1)) before at (rowLines t (i + 1)) k left
+pub row-more : {before mid left : List ℕ} {at j k : ℕ} (t : List ℕ) (i : ℕ) → PutIn (156 * i) before at (rowLines t i) j mid
+    → PutIn 156 mid j (rowLine t i) k left → PutIn (156 * (i + 1)) before at (rowLines t (i + 1)) k left
 row-more t i p q =
     let e : 156 * i + 156 ≡ 156 * (i + 1) = omega arith in
     rw (← e, add-one) (both p q)

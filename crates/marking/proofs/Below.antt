@@ -69,7 +69,8 @@ some-none p = refl
 
 any-snoc : (p : ℕ → Bool) (n : ℕ) (f : ℕ → ℕ) → any p (tab (suc n) f) ≡ any p (tab n f) || p (f n)
 any-snoc p zero f = or-false (p (f 0))
-any-snoc p (suc n) f = ap (λ (b : Bool). p (f 0) || b) (any-snoc p n (λ k. f (suc k))) ∙ sym (or-assoc (p (f 0)) (any p (tab n (λ k. f (suc k)))) (p (f (suc n))))
+any-snoc p (suc n) f = ap (λ (b : Bool). p (f 0) || b) (any-snoc p n (λ k. f (suc k)))
+    ∙ sym (or-assoc (p (f 0)) (any p (tab n (λ k. f (suc k)))) (p (f (suc n))))
 
 pub some-step : (n : ℕ) (p : ℕ → Bool) → someTo (suc n) p ≡ someTo n p || p n
 unfolding someTo

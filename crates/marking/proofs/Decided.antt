@@ -1,4 +1,5 @@
--- Marking is a function. Where there is a path, there is one of at most as many steps as there are states: so it is decided whether there is one, and each state has one mark.
+-- Marking is a function. Where there is a path, there is one of at most as many steps as there are states: so it is decided whether there is one, and each
+-- state has one mark.
 use mathlib.Core.Path.{_≡_, refl, sym, _∙_}
 use mathlib.Core.Bool.{Bool, true, false, not, _&&_, cond, or-true, false≢true}
 use mathlib.Core.List.{List}

@@ -42,14 +42,17 @@ module _ (C : Cells) (mirror : ℕ → ℕ) (M : Mirrored C mirror) where
       sum-same N (λ k. f (mirror k)) (λ k. sumTo N (λ j. cond (eqb j (mirror k)) (f j) 0)) (λ k h. sym (pick N (mirror k) f (M .mirror-below k h)))
       ∙ sum-swap N N (λ k j. cond (eqb j (mirror k)) (f j) 0)
       ∙ sum-same N (λ j. sumTo N (λ k. cond (eqb j (mirror k)) (f j) 0)) f
-      (λ j h. sum-same N (λ k. cond (eqb j (mirror k)) (f j) 0) (λ k. cond (eqb k (mirror j)) (f j) 0) (λ k g. ap (λ (b : Bool). cond b (f j) 0) (turned j k h g))
+      (λ j h. sum-same N (λ k. cond (eqb j (mirror k)) (f j) 0) (λ k. cond (eqb k (mirror j)) (f j) 0)
+      (λ k g. ap (λ (b : Bool). cond b (f j) 0) (turned j k h g))
       ∙ pick N (mirror j) (λ k. f j) (M .mirror-below j h))
 
   pub observations-mirrored : (i : ℕ) → i < C .states → observations C (mirror i) ≡ observations C i
   unfolding observations
   observations-mirrored i h =
-      let a = sym (sum-mirrored (C .stay (mirror i))) ∙ sum-same (C .states) (λ j. C .stay (mirror i) (mirror j)) (C .stay i) (λ j g. M .stay-mirrored i j h g) in
-      let b = sym (sum-mirrored (C .moved (mirror i))) ∙ sum-same (C .states) (λ j. C .moved (mirror i) (mirror j)) (C .moved i) (λ j g. M .moved-mirrored i j h g) in
+      let a = sym (sum-mirrored (C .stay (mirror i)))
+      ∙ sum-same (C .states) (λ j. C .stay (mirror i) (mirror j)) (C .stay i) (λ j g. M .stay-mirrored i j h g) in
+      let b = sym (sum-mirrored (C .moved (mirror i)))
+      ∙ sum-same (C .states) (λ j. C .moved (mirror i) (mirror j)) (C .moved i) (λ j g. M .moved-mirrored i j h g) in
       rw (a, b)
 
   not-rare-mirrored : (i : ℕ) → i < C .states → NotRare C i → NotRare C (mirror i)

@@ -4,6 +4,7 @@ ghost use mathlib.Core.Path.{_≡_};
 ghost use mathlib.Core.Bool.{true, false};
 ghost use Prim.Native.Nat.{_+_, _*_, _<_, _≤_, _^_};
 ghost use lib.ListN.{length};
+ghost use Rattle.basics.specs.Loan.{given, final};
 ghost use Rattle.marking.specs.Below.{sumTo};
 ghost use Rattle.marking.specs.Marks.{cellOf, cellsOf, Fitting, observations, Marked};
 ghost use Rattle.marking.specs.Steps.{hasPositive, leadsOut, firstMark, FirstMarks, Freed, Left, Turned};
@@ -11,7 +12,7 @@ ghost use Rattle.marking.specs.Steps.{hasPositive, leadsOut, firstMark, 
 // The sum of row x of a table of n columns.
 fn row_sum(table: &[u64], n: usize, x: usize) -> u64
     requires { ⌜ (x * n + n ≤ length (now table)) × (sumTo n (cellOf n (now table) x) ≤ 2 ^ 53) ⌝ }
-    ensures { λ r. ⌜ r ≡ sumTo n (cellOf n (now (table .entry)) x) ⌝ }
+    ensures { λ r. ⌜ r ≡ sumTo n (cellOf n (given table) x) ⌝ }
 {
     let start = x * n;
     let mut sum: u64 = 0;
@@ -26,7 +27,7 @@ fn row_sum(table: &[u64], n: usize, x: usize) -> u64
 // The observations of state x, which do not depend on the least.
 pub fn observations_of(stay: &[u64], moved: &[u64], n: usize, x: usize) -> u64
     requires { ⌜ Fitting n (now stay) (now moved) × (x < n) ⌝ }
-    ensures { λ r. ⌜ r ≡ observations (cellsOf n 0 (now (stay .entry)) (now (moved .entry))) x ⌝ }
+    ensures { λ r. ⌜ r ≡ observations (cellsOf n 0 (given stay) (given moved)) x ⌝ }
 {
     row_sum(stay, n, x) + row_sum(moved, n, x)
 }
@@ -34,7 +35,7 @@ pub fn observations_of(stay: &[u64], moved: &[u64], n: usize, x: usize) -> u64
 // Whether a cell of row x is positive.
 fn has_positive(table: &[u64], n: usize, x: usize) -> bool
     requires { ⌜ x * n + n ≤ length (now table) ⌝ }
-    ensures { λ r. ⌜ r ≡ hasPositive n (now (table .entry)) x ⌝ }
+    ensures { λ r. ⌜ r ≡ hasPositive n (given table) x ⌝ }
 {
     let start = x * n;
     let mut j: usize = 0;
@@ -50,7 +51,7 @@ fn has_positive(table: &[u64], n: usize, x: usize) -> bool
 // Whether a positive stay cell leads from x to a state with mark 0.
 fn leads_out(stay: &[u64], marks: &[u64], n: usize, x: usize) -> bool
     requires { ⌜ (x * n + n ≤ length (now stay)) × (n ≤ length (now marks)) ⌝ }
-    ensures { λ r. ⌜ r ≡ leadsOut n (now (stay .entry)) (now (marks .entry)) x ⌝ }
+    ensures { λ r. ⌜ r ≡ leadsOut n (given stay) (given marks) x ⌝ }
 {
     let start = x * n;
     let mut j: usize = 0;
@@ -66,7 +67,7 @@ fn leads_out(stay: &[u64], marks: &[u64], n: usize, x: usize) -> bool
 // The mark of x by its own rows.
 fn first_mark(stay: &[u64], moved: &[u64], n: usize, least: u64, x: usize) -> u64
     requires { ⌜ Fitting n (now stay) (now moved) × (x < n) ⌝ }
-    ensures { λ r. ⌜ r ≡ firstMark n least (now (stay .entry)) (now (moved .entry)) x ⌝ }
+    ensures { λ r. ⌜ r ≡ firstMark n least (given stay) (given moved) x ⌝ }
 {
     if observations_of(stay, moved, n, x) < least {
         return 1;
@@ -79,7 +80,7 @@ fn first_mark(stay: &[u64], moved: &[u64], n: usize, least: u64, x: usize) -> u6
 
 fn first_marks(stay: &[u64], moved: &[u64], n: usize, least: u64, marks: &mut [u64])
     requires { ⌜ Fitting n (now stay) (now moved) × (n ≤ length (now marks)) ⌝ }
-    ensures { λ _. ⌜ FirstMarks n least (now (stay .entry)) (now (moved .entry)) (now (marks .entry)) (now (marks .exit)) ⌝ }
+    ensures { λ _. ⌜ FirstMarks n least (given stay) (given moved) (given marks) (final marks) ⌝ }
 {
     let mut x: usize = 0;
     while x < n {
@@ -92,7 +93,7 @@ fn first_marks(stay: &[u64], moved: &[u64], n: usize, least: u64, marks: &mut [u
 // Frees x if its mark is 2 and it leads out, and says whether it did.
 fn look_at(stay: &[u64], n: usize, marks: &mut [u64], x: usize) -> bool
     requires { ⌜ (x < n) × (n * n ≤ length (now stay)) × (n ≤ length (now marks)) ⌝ }
-    ensures { λ r. ⌜ (r ≡ true → Freed n (now (stay .entry)) (now (marks .entry)) (now (marks .exit)) x) × (r ≡ false → Left n (now (stay .entry)) (now (marks .entry)) (now (marks .exit)) x) ⌝ }
+    ensures { λ r. ⌜ (r ≡ true → Freed n (given stay) (given marks) (final marks) x) × (r ≡ false → Left n (given stay) (given marks) (final marks) x) ⌝ }
 {
     if marks[x] != 2 {
         return false;
@@ -107,7 +108,7 @@ fn look_at(stay: &[u64], n: usize, marks: &mut [u64], x: usize) -> bool
 // One turn through the states, which says whether it freed any.
 fn turn(stay: &[u64], n: usize, marks: &mut [u64]) -> bool
     requires { ⌜ (n * n ≤ length (now stay)) × (n ≤ length (now marks)) ⌝ }
-    ensures { λ r. ⌜ Turned n (now (stay .entry)) (now (marks .entry)) (now (marks .exit)) r ⌝ }
+    ensures { λ r. ⌜ Turned n (given stay) (given marks) (final marks) r ⌝ }
 {
     let mut freed = false;
     let mut x: usize = 0;
@@ -123,7 +124,7 @@ fn turn(stay: &[u64], n: usize, marks: &mut [u64]) -> bool
 // Marks n states; marks after theirs are unchanged.
 pub fn mark_no_price_move(stay: &[u64], moved: &[u64], n: usize, least: u64, marks: &mut [u64])
     requires { ⌜ Fitting n (now stay) (now moved) × (n ≤ length (now marks)) ⌝ }
-    ensures { λ _. ⌜ Marked (cellsOf n least (now (stay .entry)) (now (moved .entry))) (now (marks .entry)) (now (marks .exit)) ⌝ }
+    ensures { λ _. ⌜ Marked (cellsOf n least (given stay) (given moved)) (given marks) (final marks) ⌝ }
 {
     first_marks(stay, moved, n, least, marks);
     while turn(stay, n, marks) {}

@@ -25,7 +25,8 @@ use Rattle.mirrored.specs.Lies.{Mirrors}
 use Rattle.mirrored.proofs.Walks.{all-ext, first-ext}
 
 -- two places that a row's walk compares
-pub cell-is : (N : ℕ) (mirror : ℕ → ℕ) (t : Tables) (i j x y : ℕ) (a b : Bool) → x ≡ i * N + j → y ≡ mirror i * N + mirror j → a ≡ cellsAlike (t .stay) x y → b ≡ cellsAlike (t .moved) x y → (a && b) ≡ cellMirrored N mirror t i j
+pub cell-is : (N : ℕ) (mirror : ℕ → ℕ) (t : Tables) (i j x y : ℕ) (a b : Bool) → x ≡ i * N + j → y ≡ mirror i * N + mirror j → a ≡ cellsAlike (t .stay) x y
+    → b ≡ cellsAlike (t .moved) x y → (a && b) ≡ cellMirrored N mirror t i j
 cell-is N mirror t i j x y a b ex ey ea eb = rw (ea, eb, ex, ey)
 
 -- mirrors that agree on the states
@@ -44,7 +45,8 @@ module _ (N : ℕ) (f g : ℕ → ℕ) (same : (i : ℕ) → i < N → f i ≡ g
       (first-ext (checkState N f (k .tables)) (checkState N g (k .tables)) 0 N (λ i b. state-ext (k .tables) i (omega arith)))
 
 -- the check by a table of mirrors
-pub check-by : (n N : ℕ) (ms : List ℕ) (mirror : ℕ → ℕ) (k : Counts) (r : Check) → n ≡ N → ((i : ℕ) → i < N → getD ms i 0 ≡ mirror i) → r ≡ checkCounts n (λ i. getD ms i 0) k → r ≡ checkCounts N mirror k
+pub check-by : (n N : ℕ) (ms : List ℕ) (mirror : ℕ → ℕ) (k : Counts) (r : Check) → n ≡ N → ((i : ℕ) → i < N → getD ms i 0 ≡ mirror i)
+    → r ≡ checkCounts n (λ i. getD ms i 0) k → r ≡ checkCounts N mirror k
 check-by n N ms mirror k r e same h = h ∙ rw e (check-ext N (λ i. getD ms i 0) mirror same k)
 
 -- 6 is of the counters, or of the totals
@@ -63,7 +65,8 @@ pairs-most k e =
     ltb-false (2 ^ 52) (k .pairs) (neither a b (neither (a || b) d e .0) .0)
 
 -- the table of a configuration's mirrors
-pub mirrors-known : (c : MicroPriceConfig) (ms : List ℕ) → Valid c → 256 ≤ length ms → ((i : ℕ) → i < states c → getD ms i 0 ≡ mirrorOf (c .«imbalance_buckets») i) → Mirrors (states c) ms
+pub mirrors-known : (c : MicroPriceConfig) (ms : List ℕ) → Valid c → 256 ≤ length ms
+    → ((i : ℕ) → i < states c → getD ms i 0 ≡ mirrorOf (c .«imbalance_buckets») i) → Mirrors (states c) ms
 mirrors-known c ms v h e =
     record {
       enough = omega (arith, v .states-most);

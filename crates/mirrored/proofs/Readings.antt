@@ -9,6 +9,7 @@ use lib.ListN.{length, getD, length-map, List·getD-map}
 use mir.Syntax.{w64}
 use mir.Val.{Fits}
 use mir.Facts.{sfits-toZ, ofZ-toZ}
+use Rattle.basics.proofs.Tests.{zero-not-one}
 use Rattle.words.specs.Words.{wordsOf, wordAt, untwos, WordOf}
 use Rattle.words.proofs.Laws.{words-at, length-words}
 use Rattle.mirrored.specs.Lies.{cellsIn, totalsIn, Holds}
@@ -33,10 +34,12 @@ totals-length true n t b h = length-map (words n b (h .bytes-is refl)) untwos �
 totals-length false n t b h = h .lent-is refl
 
 -- a word that is read of the bytes is the cell there, and the word of the total there
-pub cell-imaged : (imaged : Bool) (n : ℕ) (t b : List ℕ) → Holds imaged n (length t) (length b) → imaged ≡ true → (i w : ℕ) → i < n → w ≡ wordAt b (8 * i) → w ≡ getD (cellsIn imaged t b) i 0
+pub cell-imaged : (imaged : Bool) (n : ℕ) (t b : List ℕ) → Holds imaged n (length t) (length b) → imaged ≡ true → (i w : ℕ) → i < n → w ≡ wordAt b (8 * i)
+    → w ≡ getD (cellsIn imaged t b) i 0
 cell-imaged imaged n t b h e i w l f = rw e (word-at n b (h .bytes-is e) i w l f)
 
-pub total-imaged : (imaged : Bool) (n : ℕ) (t : List ℤ) (b : List ℕ) → Holds imaged n (length t) (length b) → imaged ≡ true → (i w : ℕ) → i < n → Fits w64 w → w ≡ wordAt b (8 * i) → WordOf w (getD (totalsIn imaged t b) i (pos 0))
+pub total-imaged : (imaged : Bool) (n : ℕ) (t : List ℤ) (b : List ℕ) → Holds imaged n (length t) (length b) → imaged ≡ true → (i w : ℕ) → i < n → Fits w64 w
+    → w ≡ wordAt b (8 * i) → WordOf w (getD (totalsIn imaged t b) i (pos 0))
 total-imaged imaged n t b h e i w l g f =
     let v : getD (totalsIn true t b) i (pos 0) ≡ untwos w =
     List·getD-map untwos (words n b (h .bytes-is e)) i 0 ∙ ap untwos (sym (word-at n b (h .bytes-is e) i w l f)) in
@@ -44,4 +47,4 @@ total-imaged imaged n t b h e i w l g f =
 
 -- a table in a slice lies there, whatever bytes there are
 pub lent : (n l b : ℕ) → l ≡ n → Holds false n l b
-lent n l b h = record { lent-is = λ e. h; bytes-is = λ e. absurd (let z : _≡_ {A = ℕ} 0 1 = cc in omega arith) }
+lent n l b h = record { lent-is = λ e. h; bytes-is = λ e. absurd (zero-not-one cc) }

@@ -14,7 +14,8 @@ use Rattle.mirrored.proofs.Totals.{eqb-iff}
 abbrev capped : ℕ → ℕ
 capped n = min 9007199254740993 n
 
-pub sum-step : (l : List ℕ) (n i a x b : ℕ) → length l ≡ n → i < n → x ≡ getD l i 0 → b ≡ capped (a + x) → capped (b + sum (drop (i + 1) l)) ≡ capped (a + sum (drop i l))
+pub sum-step : (l : List ℕ) (n i a x b : ℕ) → length l ≡ n → i < n → x ≡ getD l i 0 → b ≡ capped (a + x)
+    → capped (b + sum (drop (i + 1) l)) ≡ capped (a + sum (drop i l))
 sum-step l n i a x b z h q e =
     let s : suc i ≡ i + 1 = omega arith in
     let f : sum (drop i l) ≡ getD l i 0 + sum (drop (i + 1) l) =

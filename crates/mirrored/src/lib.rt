@@ -5,11 +5,12 @@ use config::MicroPriceConfig;
 use refusals::Check;
 use refusals::Refusal;
 ghost use mathlib.Core.Path.{_≡_};
-ghost use mathlib.Core.Bool.{true, false, not};
+ghost use mathlib.Core.Bool.{true, false};
 ghost use mathlib.Core.List.{[]};
 ghost use Prim.Native.Nat.{ℕ, _+_, _*_, _≤_, _<_, _^_, min};
 ghost use lib.IntN.{pos};
 ghost use lib.ListN.{length, getD};
+ghost use Rattle.basics.specs.Loan.{given};
 ghost use Rattle.basics.specs.Lists.{any, sum};
 ghost use Rattle.refusals.specs.Refusals.{firstFrom};
 ghost use Rattle.config.specs.Configuration.{states};
@@ -17,15 +18,14 @@ ghost use Rattle.config.specs.Known.{Valid};
 ghost use Rattle.quotes.specs.States.{mirrorOf};
 ghost use Rattle.words.specs.Words.{WordOf};
 ghost use Rattle.tally.specs.Entries.{tables, overTotal};
-ghost use Rattle.tally.specs.Limits.{overCounter};
-ghost use Rattle.calibrator.specs.Record.{countsOf, skipsOf};
+ghost use Rattle.calibrator.specs.Record.{countsOf};
 ghost use Rattle.mirrored.specs.Mirrors.{totalMirrored, cellsAlike, rowMirrored, checkState, isTwice, checkCounts, checkMirrored, countersOver};
 ghost use Rattle.mirrored.specs.Lies.{cellsIn, totalsIn, tablesIn, Holds, Lies, Mirrors, withinWord, oppositeWords};
 
 // Cell i of a table, from the slice or, if imaged, from the bytes.
 fn cell_in(t: &[u64], b: &[u8], imaged: bool, n: usize, i: usize) -> u64
     requires { ⌜ Holds imaged n (length (now t)) (length (now b)) × (i < n) ⌝ }
-    ensures { λ r. ⌜ r ≡ getD (cellsIn imaged (now (t .entry)) (now (b .entry))) i 0 ⌝ }
+    ensures { λ r. ⌜ r ≡ getD (cellsIn imaged (given t) (given b)) i 0 ⌝ }
 {
     if imaged {
         return words::get_word(b, 8 * i);
@@ -36,7 +36,7 @@ fn cell_in(t: &[u64], b: &[u8], imaged: bool, n: usize, i: usize) -> u64
 // Total i as its word.
 fn total_in(t: &[i64], b: &[u8], imaged: bool, n: usize, i: usize) -> u64
     requires { ⌜ Holds imaged n (length (now t)) (length (now b)) × (i < n) ⌝ }
-    ensures { λ r. ⌜ WordOf r (getD (totalsIn imaged (now (t .entry)) (now (b .entry))) i (pos 0)) ⌝ }
+    ensures { λ r. ⌜ WordOf r (getD (totalsIn imaged (given t) (given b)) i (pos 0)) ⌝ }
 {
     if imaged {
         return words::get_word(b, 8 * i);
@@ -61,7 +61,7 @@ fn are_opposite(a: u64, b: u64) -> bool
 
 fn totals_over(t: &[i64], b: &[u8], imaged: bool, n: usize) -> bool
     requires { ⌜ Holds imaged n (length (now t)) (length (now b)) ⌝ }
-    ensures { λ r. ⌜ r ≡ any overTotal (totalsIn imaged (now (t .entry)) (now (b .entry))) ⌝ }
+    ensures { λ r. ⌜ r ≡ any overTotal (totalsIn imaged (given t) (given b)) ⌝ }
 {
     let mut i: usize = 0;
     while i < n {
@@ -75,7 +75,7 @@ fn totals_over(t: &[i64], b: &[u8], imaged: bool, n: usize) -> bool
 
 fn total_mirrored(t: &[i64], b: &[u8], imaged: bool, n: usize, i: usize, m: usize) -> bool
     requires { ⌜ Holds imaged n (length (now t)) (length (now b)) × (i < n) × (m < n) ⌝ }
-    ensures { λ r. ⌜ r ≡ totalMirrored (totalsIn imaged (now (t .entry)) (now (b .entry))) i m ⌝ }
+    ensures { λ r. ⌜ r ≡ totalMirrored (totalsIn imaged (given t) (given b)) i m ⌝ }
 {
     let x = total_in(t, b, imaged, n, i);
     let y = total_in(t, b, imaged, n, m);
@@ -98,7 +98,7 @@ fn add_capped(a: u64, x: u64) -> u64
 
 fn sum_capped(t: &[u64], b: &[u8], imaged: bool, n: usize) -> u64
     requires { ⌜ Holds imaged n (length (now t)) (length (now b)) ⌝ }
-    ensures { λ r. ⌜ r ≡ min 9007199254740993 (sum (cellsIn imaged (now (t .entry)) (now (b .entry)))) ⌝ }
+    ensures { λ r. ⌜ r ≡ min 9007199254740993 (sum (cellsIn imaged (given t) (given b))) ⌝ }
 {
     let mut a: u64 = 0;
     let mut i: usize = 0;
@@ -120,7 +120,7 @@ fn is_twice(
     cells: usize,
 ) -> bool
     requires { ⌜ (pairs ≤ 2 ^ 52) × Holds imaged cells (length (now stay)) (length (now sb)) × Holds imaged cells (length (now moved)) (length (now mb)) ⌝ }
-    ensures { λ r. ⌜ r ≡ isTwice pairs (tables (cellsIn imaged (now (stay .entry)) (now (sb .entry))) (cellsIn imaged (now (moved .entry)) (now (mb .entry))) []) ⌝ }
+    ensures { λ r. ⌜ r ≡ isTwice pairs (tables (cellsIn imaged (given stay) (given sb)) (cellsIn imaged (given moved) (given mb)) []) ⌝ }
 {
     let a = sum_capped(stay, sb, imaged, cells);
     let b = sum_capped(moved, mb, imaged, cells);
@@ -129,7 +129,7 @@ fn is_twice(
 
 fn cells_alike(t: &[u64], b: &[u8], imaged: bool, n: usize, x: usize, y: usize) -> bool
     requires { ⌜ Holds imaged n (length (now t)) (length (now b)) × (x < n) × (y < n) ⌝ }
-    ensures { λ r. ⌜ r ≡ cellsAlike (cellsIn imaged (now (t .entry)) (now (b .entry))) x y ⌝ }
+    ensures { λ r. ⌜ r ≡ cellsAlike (cellsIn imaged (given t) (given b)) x y ⌝ }
 {
     let p = cell_in(t, b, imaged, n, x);
     let q = cell_in(t, b, imaged, n, y);
@@ -154,7 +154,7 @@ fn row_mirrored(
     i: usize,
 ) -> bool
     requires { ⌜ (n ≤ 256) × (i < n) × Mirrors n (now mirrors) × Holds imaged (n * n) (length (now stay)) (length (now sb)) × Holds imaged (n * n) (length (now moved)) (length (now mb)) ⌝ }
-    ensures { λ r. ⌜ r ≡ rowMirrored n (λ k. getD (now (mirrors .entry)) k 0) (tables (cellsIn imaged (now (stay .entry)) (now (sb .entry))) (cellsIn imaged (now (moved .entry)) (now (mb .entry))) []) i ⌝ }
+    ensures { λ r. ⌜ r ≡ rowMirrored n (λ k. getD (given mirrors) k 0) (tables (cellsIn imaged (given stay) (given sb)) (cellsIn imaged (given moved) (given mb)) []) i ⌝ }
 {
     let cells = n * n;
     let m = mirrors[i];
@@ -186,7 +186,7 @@ fn check_state(
     i: usize,
 ) -> Check
     requires { ⌜ (i < n) × Mirrors n (now mirrors) × Lies imaged n (length (now stay)) (length (now moved)) (length (now totals)) (length (now sb)) (length (now mb)) (length (now tb)) ⌝ }
-    ensures { λ r. ⌜ r ≡ checkState n (λ k. getD (now (mirrors .entry)) k 0) (tablesIn imaged (now (stay .entry)) (now (moved .entry)) (now (totals .entry)) (now (sb .entry)) (now (mb .entry)) (now (tb .entry))) i ⌝ }
+    ensures { λ r. ⌜ r ≡ checkState n (λ k. getD (given mirrors) k 0) (tablesIn imaged (given stay) (given moved) (given totals) (given sb) (given mb) (given tb)) i ⌝ }
 {
     if !total_mirrored(totals, tb, imaged, n, i, mirrors[i]) {
         return Check::Refused(Refusal::TotalsUnmirrored);
@@ -209,7 +209,7 @@ fn check_states(
     imaged: bool,
 ) -> Check
     requires { ⌜ Mirrors n (now mirrors) × Lies imaged n (length (now stay)) (length (now moved)) (length (now totals)) (length (now sb)) (length (now mb)) (length (now tb)) ⌝ }
-    ensures { λ r. ⌜ r ≡ firstFrom (checkState n (λ k. getD (now (mirrors .entry)) k 0) (tablesIn imaged (now (stay .entry)) (now (moved .entry)) (now (totals .entry)) (now (sb .entry)) (now (mb .entry)) (now (tb .entry)))) 0 n ⌝ }
+    ensures { λ r. ⌜ r ≡ firstFrom (checkState n (λ k. getD (given mirrors) k 0) (tablesIn imaged (given stay) (given moved) (given totals) (given sb) (given mb) (given tb))) 0 n ⌝ }
 {
     let mut i: usize = 0;
     while i < n {
@@ -244,7 +244,7 @@ pub fn check_counts(
     imaged: bool,
 ) -> Check
     requires { ⌜ Mirrors n (now mirrors) × Lies imaged n (length (now stay)) (length (now moved)) (length (now totals)) (length (now sb)) (length (now mb)) (length (now tb)) ⌝ }
-    ensures { λ r. ⌜ r ≡ checkCounts n (λ k. getD (now (mirrors .entry)) k 0) (countsOf counters (tablesIn imaged (now (stay .entry)) (now (moved .entry)) (now (totals .entry)) (now (sb .entry)) (now (mb .entry)) (now (tb .entry)))) ⌝ }
+    ensures { λ r. ⌜ r ≡ checkCounts n (λ k. getD (given mirrors) k 0) (countsOf counters (tablesIn imaged (given stay) (given moved) (given totals) (given sb) (given mb) (given tb))) ⌝ }
 {
     if counters_over(counters) {
         return Check::Refused(Refusal::CountLimit);
@@ -290,7 +290,7 @@ pub fn check_tables(
     imaged: bool,
 ) -> Check
     requires { ⌜ Valid config × Lies imaged (states config) (length (now stay)) (length (now moved)) (length (now totals)) (length (now sb)) (length (now mb)) (length (now tb)) ⌝ }
-    ensures { λ r. ⌜ r ≡ checkMirrored config (countsOf counters (tablesIn imaged (now (stay .entry)) (now (moved .entry)) (now (totals .entry)) (now (sb .entry)) (now (mb .entry)) (now (tb .entry)))) ⌝ }
+    ensures { λ r. ⌜ r ≡ checkMirrored config (countsOf counters (tablesIn imaged (given stay) (given moved) (given totals) (given sb) (given mb) (given tb))) ⌝ }
 {
     let n = config::inner::state_count(config);
     let mirrors = mirrors_of(config);
@@ -317,7 +317,7 @@ pub fn check_mirrored_counts(
     move_half_ticks: &[i64],
 ) -> Check
     requires { ⌜ Valid config × (length (now stay) ≡ states config * states config) × (length (now moved) ≡ states config * states config) × (length (now «move_half_ticks») ≡ states config) ⌝ }
-    ensures { λ r. ⌜ r ≡ checkMirrored config (countsOf counters (tables (now (stay .entry)) (now (moved .entry)) (now («move_half_ticks» .entry)))) ⌝ }
+    ensures { λ r. ⌜ r ≡ checkMirrored config (countsOf counters (tables (given stay) (given moved) (given «move_half_ticks»))) ⌝ }
 {
     let none = [0u8; 1];
     check_tables(

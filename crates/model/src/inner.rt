@@ -5,6 +5,7 @@ ghost use mathlib.Core.Path.{_≡_};
 ghost use Prim.Native.Nat.{_+_, _*_, _≤_};
 ghost use lib.ListN.{length};
 ghost use lib.Seq.{sets};
+ghost use Rattle.basics.specs.Loan.{given, final};
 ghost use Rattle.model.specs.Rows.{floatWord, rowWords, rowAt};
 ghost use Rattle.model.specs.Status.{statusNumber};
 
@@ -29,7 +30,7 @@ fn float_word(x: f64) -> u64
 // Writes the row of state i.
 pub fn write_row(table: &mut [u64], i: usize, e: StateEstimate)
     requires { ⌜ 7 * i + 7 ≤ length (now table) ⌝ }
-    ensures { λ _. ⌜ now (table .exit) ≡ sets (now (table .entry)) (7 * i) (rowWords e) ⌝ }
+    ensures { λ _. ⌜ final table ≡ sets (given table) (7 * i) (rowWords e) ⌝ }
 {
     let first_adjustment = float_word(e.first_adjustment);
     let adjustment = float_word(e.adjustment);
@@ -47,7 +48,7 @@ pub fn write_row(table: &mut [u64], i: usize, e: StateEstimate)
 // Reads the row of state i.
 pub fn read_row(table: &[u64], i: usize) -> StateEstimate
     requires { ⌜ 7 * i + 7 ≤ length (now table) ⌝ }
-    ensures { λ r. ⌜ r ≡ rowAt (now (table .entry)) i ⌝ }
+    ensures { λ r. ⌜ r ≡ rowAt (given table) i ⌝ }
 {
     let at = 7 * i;
     let first_adjustment = floats::from_bits(table[at + 3]);

@@ -13,7 +13,8 @@ use Rattle.quotes.specs.States.{mirrorOf}
 use Rattle.model_check.specs.Check.{rowFine, checkRow}
 
 -- the check of row i, read as e, with its mirror's row
-module _ (c : MicroPriceConfig) (t : List ℕ) (i m : ℕ) (e mirror : StateEstimate) (r : Bool) (em : m ≡ mirrorOf (c .«imbalance_buckets») i) (ee : e ≡ rowAt t i) (ef : mirror ≡ rowAt t m) (er : r ≡ rowFine c i e mirror) where
+module _ (c : MicroPriceConfig) (t : List ℕ) (i m : ℕ) (e mirror : StateEstimate) (r : Bool) (em : m ≡ mirrorOf (c .«imbalance_buckets») i)
+    (ee : e ≡ rowAt t i) (ef : mirror ≡ rowAt t m) (er : r ≡ rowFine c i e mirror) where
   judged : r ≡ rowFine c i (rowAt t i) (rowAt t (mirrorOf (c .«imbalance_buckets») i))
   judged = er ∙ (λ d. rowFine c i (ee d) ((ef ∙ ap (rowAt t) em) d))
 

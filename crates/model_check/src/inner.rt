@@ -8,6 +8,7 @@ ghost use mathlib.Core.Bool.{_&&_};
 ghost use Prim.Native.Nat.{_*_, _<_};
 ghost use lib.Ieee.Scale.{finite};
 ghost use lib.ListN.{length};
+ghost use Rattle.basics.specs.Loan.{given};
 ghost use Rattle.refusals.specs.Refusals.{firstFrom};
 ghost use Rattle.config.specs.Configuration.{states};
 ghost use Rattle.config.specs.Known.{Valid};
@@ -99,7 +100,7 @@ fn row_fine(config: MicroPriceConfig, i: usize, e: StateEstimate, mirror: StateE
 
 fn check_row(config: MicroPriceConfig, table: &[u64], i: usize) -> Check
     requires { ⌜ Valid config × (length (now table) ≡ 7 * states config) × (i < states config) ⌝ }
-    ensures { λ r. ⌜ r ≡ checkRow config (now (table .entry)) i ⌝ }
+    ensures { λ r. ⌜ r ≡ checkRow config (given table) i ⌝ }
 {
     let m = quotes::inner::mirror_of(config.imbalance_buckets, i);
     let e = model::inner::read_row(table, i);
@@ -112,7 +113,7 @@ fn check_row(config: MicroPriceConfig, table: &[u64], i: usize) -> Check
 
 pub fn check_rows(config: MicroPriceConfig, table: &[u64], n: usize) -> Check
     requires { ⌜ Valid config × (length (now table) ≡ 7 * states config) × (n ≡ states config) ⌝ }
-    ensures { λ r. ⌜ r ≡ firstFrom (checkRow config (now (table .entry))) 0 n ⌝ }
+    ensures { λ r. ⌜ r ≡ firstFrom (checkRow config (given table)) 0 n ⌝ }
 {
     let mut i: usize = 0;
     while i < n {

@@ -5,11 +5,12 @@ use config::MicroPriceConfig;
 use refusals::Check;
 use refusals::Refusal;
 ghost use mathlib.Core.Path.{_≡_};
+ghost use Rattle.basics.specs.Loan.{given};
 ghost use Rattle.model_check.specs.Check.{checkModel};
 
 // Refuses a model table that is not one of the configuration, at its first bad row.
 pub fn check_model(config: MicroPriceConfig, table: &[u64]) -> Check
-    ensures { λ r. ⌜ r ≡ checkModel config (now (table .entry)) ⌝ }
+    ensures { λ r. ⌜ r ≡ checkModel config (given table) ⌝ }
 {
     if !config::inner::is_valid(config) {
         return Check::Refused(Refusal::Configuration);

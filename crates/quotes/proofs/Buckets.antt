@@ -52,7 +52,8 @@ by-division lighter heavier n half some two =
     least-at (λ j. leb s (total * j)) (n - 1) 1 (m + 1) (omega arith)
     (omega (arith, div-lt-iff-lt-mul {k = total} {x = s - 1} {y = n - 1} (omega arith) .1 under))
     (le-leb s (total * (m + 1)) (omega (arith, up, e, l)))
-    (λ x a b. lt-leb s (total * x) (omega (arith, mul-comm total x, mul-le-mul-right {m = x} {n = m} total (omega arith), mul-le-mul-right {m = 1} {n = x} total a, e))) in
+    (λ x a b. lt-leb s (total * x)
+    (omega (arith, mul-comm total x, mul-le-mul-right {m = x} {n = m} total (omega arith), mul-le-mul-right {m = 1} {n = x} total a, e))) in
     omega (arith, found)
 
 double : (a m : ℕ) → (a + a) * m ≡ a * (m + m)

@@ -62,7 +62,9 @@ place-exchanged c q v f =
 pub state-exchanged : (c : MicroPriceConfig) (q : TopOfBook) → stateOf c (exchanged q) ≡ mirrorPlace (stateOf c q)
 state-exchanged c q = rw (check-exchanged c q) (go (valid c) refl (checkQuote c q) refl)
   where
-    go : (t : Bool) → valid c ≡ t → (k : Check) → checkQuote c q ≡ k → unless (firstOf (checkConfig c) (checkQuote c q)) (placeOf c (exchanged q)) ≡ mirrorPlace (unless (firstOf (checkConfig c) (checkQuote c q)) (placeOf c q))
+    go : (t : Bool) → valid c ≡ t → (k : Check) → checkQuote c q ≡ k
+        → unless (firstOf (checkConfig c) (checkQuote c q)) (placeOf c (exchanged q)) ≡ mirrorPlace
+        (unless (firstOf (checkConfig c) (checkQuote c q)) (placeOf c q))
     go false e k g = rw e
     go true e Fine g = rw (e, g) (place-exchanged c q (valid-known c e) (fine-known c q g))
     go true e (Refused r) g = rw (e, g)
@@ -77,7 +79,8 @@ gapped true a b e = refl
 gapped false a b e = e
 
 -- exchanged neighbours are the same skip, or the mirrored pair with the same change
-pub neighbours-exchanged : (c : MicroPriceConfig) (p q : TopOfBook) → Valid c → Accepted c p → Accepted c q → neighboursOf c (exchanged p) (exchanged q) ≡ mirrorNeighbours (neighboursOf c p q)
+pub neighbours-exchanged : (c : MicroPriceConfig) (p q : TopOfBook) → Valid c → Accepted c p → Accepted c q
+    → neighboursOf c (exchanged p) (exchanged q) ≡ mirrorNeighbours (neighboursOf c p q)
 neighbours-exchanged c p q v f g =
     gapped (ltb (c .«max_quote_gap_ms») (q .«timestamp_ms» - p .«timestamp_ms»))
     (paired (placeOf c p) (placeOf c q) (halfTicks c p) (halfTicks c q))

@@ -13,10 +13,10 @@ use Rattle.config.specs.declared.MicroPriceConfig.{MicroPriceConfig}
 use Rattle.quotes.specs.Quotes.{over, bad, onGrid, offTick, checkQuote}
 use Rattle.quotes.specs.Known.{Accepted}
 use Rattle.quotes.specs.declared.TopOfBook.{TopOfBook}
-use Rattle.basics.proofs.Tests.{neither}
+use Rattle.basics.proofs.Tests.{zero-not-one, neither}
 
 some : (x y : ℕ) → (eqb x 0 && eqb y 0) ≡ false → 1 ≤ x + y
-some zero zero e = absurd (let n : _≡_ {A = ℕ} 0 1 = cc in omega arith)
+some zero zero e = absurd (zero-not-one cc)
 some zero (suc y) e = omega arith
 some (suc x) y e = omega arith
 

@@ -1,9 +1,9 @@
 -- What a counted pair is made of.
-use Prim.Native.Nat.{ℕ, _-_}
+use Prim.Native.Nat.{_-_}
 use mathlib.Core.Path.{_≡_, refl, sym, ap, _∙_}
 use mathlib.Core.Bool.{Bool, true, false, cond}
-use native.Mathlib.Omega.{arith}
 use lib.Dec.{ltb}
+use Rattle.basics.proofs.Tests.{zero-not-one}
 use Rattle.config.specs.declared.MicroPriceConfig.{MicroPriceConfig}
 use Rattle.quotes.specs.Quotes.{halfTicks}
 use Rattle.quotes.specs.States.{placeOf}
@@ -23,7 +23,7 @@ pub record Made (c : MicroPriceConfig) (p q : TopOfBook) (e : Pair) : Type 0 whe
   pub to-mid : e .«mid_to» ≡ halfTicks c q
 
 not-gap : (t : Bool) (w : Neighbours) (e : Pair) → cond t (Skipped Gap) w ≡ Counted e → w ≡ Counted e
-not-gap true w e h = absurd (let z : _≡_ {A = ℕ} 0 1 = cc in omega arith)
+not-gap true w e h = absurd (zero-not-one cc)
 not-gap false w e h = h
 
 -- a counted pair goes from the first quote's state to the second's, with their half ticks
@@ -42,5 +42,5 @@ counted-made c p q e h =
           from-mid = sym (ap (λ (z : Pair). z .«mid_from») k);
           to-mid = sym (ap (λ (z : Pair). z .«mid_to») k);
         }
-    go (State i) (NoState r) x y w = absurd (let z : _≡_ {A = ℕ} 0 1 = cc in omega arith)
-    go (NoState r) b x y w = absurd (let z : _≡_ {A = ℕ} 0 1 = cc in omega arith)
+    go (State i) (NoState r) x y w = absurd (zero-not-one cc)
+    go (NoState r) b x y w = absurd (zero-not-one cc)

@@ -6,6 +6,7 @@ use native.Mathlib.Omega.{arith}
 use native.Mathlib.Nat.{mod-lt, mod-eq-of-lt, mul-comm, div-add-mod', div-eq-of-lt, mul-add-mod-self-right, mul-add-div-right, div-lt-iff-lt-mul, add-zero}
 use lib.Dec.{ltb}
 use borrow.Author.Tests.{ltb-false}
+use Rattle.basics.proofs.Tests.{zero-not-one}
 use Rattle.refusals.specs.declared.Check.{Check}
 use Rattle.refusals.specs.declared.Check.the-variants.{Fine, Refused}
 use Rattle.config.specs.Configuration.{states, valid}
@@ -69,7 +70,7 @@ module _ (n i : ℕ) (some : 1 ≤ n) where
 
 -- a place that is a state has its spread in range
 placed : (t : Bool) (a b : At) → cond t (NoState SpreadOutOfRange) (State a) ≡ State b → (t ≡ false) × (a ≡ b)
-placed true a b e = absurd (let z : _≡_ {A = ℕ} 0 1 = cc in omega arith)
+placed true a b e = absurd (zero-not-one cc)
 placed false a b e = (refl, cc)
 
 -- the state of a place is below N, and so is the mirror that it carries
@@ -90,7 +91,8 @@ place-located c q v a e =
     }
 
 -- the spread of a place's state is the quote's
-pub place-spread : (c : MicroPriceConfig) (q : TopOfBook) → Valid c → Accepted c q → (a : At) → placeOf c q ≡ State a → spreadIn (c .«imbalance_buckets») (a .state) ≡ spreadOf c q
+pub place-spread : (c : MicroPriceConfig) (q : TopOfBook) → Valid c → Accepted c q → (a : At) → placeOf c q ≡ State a
+    → spreadIn (c .«imbalance_buckets») (a .state) ≡ spreadOf c q
 place-spread c q v f a e =
     let n = c .«imbalance_buckets» in
     let b = bucketOf (q .«bid_size») (q .«ask_size») n in
@@ -103,9 +105,9 @@ pub state-usable : (c : MicroPriceConfig) (q : TopOfBook) (a : At) → stateOf c
 state-usable c q a e = go (valid c) refl (checkQuote c q) refl
   where
     go : (t : Bool) → valid c ≡ t → (k : Check) → checkQuote c q ≡ k → Valid c × Accepted c q × (placeOf c q ≡ State a)
-    go false u k w = absurd (let z : _≡_ {A = ℕ} 0 1 = cc (rw u at e) in omega arith)
+    go false u k w = absurd (zero-not-one (cc (rw u at e)))
     go true u Fine w = (valid-known c u, fine-known c q w, rw (u, w) at e)
-    go true u (Refused r) w = absurd (let z : _≡_ {A = ℕ} 0 1 = cc (rw (u, w) at e) in omega arith)
+    go true u (Refused r) w = absurd (zero-not-one (cc (rw (u, w) at e)))
 
 -- a state is below N: of any quote under any configuration
 pub state-located : (c : MicroPriceConfig) (q : TopOfBook) (a : At) → stateOf c q ≡ State a → Located c a

@@ -7,6 +7,7 @@ use mathlib.Core.Logic.{_⊎_, inl, inr}
 use native.Mathlib.Nat.{add-zero, zero-add}
 use native.Mathlib.Omega.{arith}
 use borrow.Author.Tests.{eq-eqb, le-ltb}
+use Rattle.basics.proofs.Tests.{zero-not-one}
 use Rattle.basics.specs.Lists.{bit, count}
 use Rattle.refusals.specs.Refusals.{refusal, refuseIf, firstOf}
 use Rattle.refusals.specs.declared.Check.{Check}
@@ -93,7 +94,8 @@ module _ (c : MicroPriceConfig) (e : valid c ≡ true) where
     -- 6 is of the history with the quote
     six : touched (states c) (rule c .mirror) (rule c .event (held c H .last) q) (step (rule c) (held c H) q .counts) ≡ passes H q
     six =
-        sym (over-touched 2 (states c) (rule c .mirror) (rule-lawful c v .mirror-below) (held c H .counts) (sized H) (h .within) (rule c .event (held c H .last) q) (rule-lawful c v .event-in (held c H .last) q))
+        sym (over-touched 2 (states c) (rule c .mirror) (rule-lawful c v .mirror-below) (held c H .counts) (sized H) (h .within)
+        (rule c .event (held c H .last) q) (rule-lawful c v .event-in (held c H .last) q))
         ∙ ap (λ (m : Memory Previous). over (m .counts)) (one-more H q)
 
     -- such a quote is refused by 2, 3, 4 or 6
@@ -122,12 +124,13 @@ module _ (c : MicroPriceConfig) (e : valid c ≡ true) where
     within : over (r .left .counts) ≡ false
 
   -- a stop leaves the memory of the history
-  stopped-counted : (t : ℕ) (H qs : List TopOfBook) (k : ℕ) (x : Refusal) → Ready t H → (Refused x ≡ Refused (refusal 2)) ⊎ (Refused x ≡ Refused (refusal 6)) → Counted H qs k (recordedAs (Refused x) k (held c H))
+  stopped-counted : (t : ℕ) (H qs : List TopOfBook) (k : ℕ) (x : Refusal) → Ready t H → (Refused x ≡ Refused (refusal 2)) ⊎ (Refused x ≡ Refused (refusal 6))
+      → Counted H qs k (recordedAs (Refused x) k (held c H))
   stopped-counted t H qs k x h d =
       record {
         answer-is = inr d;
-        left-is = λ u. absurd (let z : _≡_ {A = ℕ} 0 1 = cc in omega arith);
-        invalid-is = λ u. absurd (let z : _≡_ {A = ℕ} 0 1 = cc in omega arith);
+        left-is = λ u. absurd (zero-not-one cc);
+        invalid-is = λ u. absurd (zero-not-one cc);
         within = h .within;
       }
 
@@ -163,13 +166,15 @@ module _ (c : MicroPriceConfig) (e : valid c ≡ true) where
     is-observed : (a : Check) → firstOf (checkQuote c q) (refuseIf (passes H q) 6) ≡ a → outcome a ≡ observed c (held c H) q
     is-observed a d = sym (ap outcome (refusal-is t H h q l ∙ d))
 
-    counted-stop : (x : Refusal) → isStop (Refused x) ≡ true → firstOf (checkQuote c q) (refuseIf (passes H q) 6) ≡ Refused x → (Refused x ≡ Refused (refusal 2)) ⊎ (Refused x ≡ Refused (refusal 6)) → Counted H (q ∷ qs) k (recorded c (q ∷ qs) k (held c H))
+    counted-stop : (x : Refusal) → isStop (Refused x) ≡ true → firstOf (checkQuote c q) (refuseIf (passes H q) 6) ≡ Refused x
+        → (Refused x ≡ Refused (refusal 2)) ⊎ (Refused x ≡ Refused (refusal 6)) → Counted H (q ∷ qs) k (recorded c (q ∷ qs) k (held c H))
     counted-stop x s d u =
         subst (Counted H (q ∷ qs) k)
         (sym (stops-at (observed c) q qs k (held c H) (outcome (Refused x)) (is-observed (Refused x) d) s))
         (stopped-counted t H (q ∷ qs) k x h u)
 
-    counted-fine : checkQuote c q ≡ Fine → passes H q ≡ false → Counted (H ++ q ∷ []) qs (k + 0) (recorded c qs (k + 0) (held c (H ++ q ∷ []))) → Counted H (q ∷ qs) k (recorded c (q ∷ qs) k (held c H))
+    counted-fine : checkQuote c q ≡ Fine → passes H q ≡ false → Counted (H ++ q ∷ []) qs (k + 0) (recorded c qs (k + 0) (held c (H ++ q ∷ [])))
+        → Counted H (q ∷ qs) k (recorded c (q ∷ qs) k (held c H))
     counted-fine f w d =
         fine-more H qs q k _ f
         (subst (Counted (H ++ q ∷ []) qs (k + 0))
@@ -177,11 +182,13 @@ module _ (c : MicroPriceConfig) (e : valid c ≡ true) where
         ∙ sym (goes-on (observed c) q qs k (held c H) (outcome Fine) (is-observed Fine (rw (f, w))) refl))
         d)
 
-    counted-invalid : (x : Refusal) → checkQuote c q ≡ Refused x → isInvalid (Refused x) ≡ true → isStop (Refused x) ≡ false → Counted H qs (k + 1) (recorded c qs (k + 1) (held c H)) → Counted H (q ∷ qs) k (recorded c (q ∷ qs) k (held c H))
+    counted-invalid : (x : Refusal) → checkQuote c q ≡ Refused x → isInvalid (Refused x) ≡ true → isStop (Refused x) ≡ false
+        → Counted H qs (k + 1) (recorded c qs (k + 1) (held c H)) → Counted H (q ∷ qs) k (recorded c (q ∷ qs) k (held c H))
     counted-invalid x f i s d =
         invalid-more H qs q k _ (ap isInvalid f ∙ i)
         (subst (Counted H qs (k + 1))
-        (sym (goes-on (observed c) q qs k (held c H) (outcome (Refused x)) (is-observed (Refused x) (rw f)) s ∙ ap (λ (b : Bool). recorded c qs (k + bit b) (held c H)) i))
+        (sym (goes-on (observed c) q qs k (held c H) (outcome (Refused x)) (is-observed (Refused x) (rw f)) s
+        ∙ ap (λ (b : Bool). recorded c qs (k + bit b) (held c H)) i))
         d)
 
   counted : (qs : List TopOfBook) (t : ℕ) (H : List TopOfBook) (k : ℕ) → Ready t H → sortedFrom t qs ≡ true → Counted H qs k (recorded c qs k (held c H))
@@ -194,9 +201,12 @@ module _ (c : MicroPriceConfig) (e : valid c ≡ true) where
       }
   counted (q ∷ qs) t H k h s =
       let n = sorted-known t q qs s in
-      go (n .0) (λ w f. counted qs (q .«timestamp_ms») (H ++ q ∷ []) (k + 0) (next-ready t H h q f w) (n .1)) (counted qs (q .«timestamp_ms») H (k + 1) (later t H h q (n .0)) (n .1)) (judged c q)
+      go (n .0) (λ w f. counted qs (q .«timestamp_ms») (H ++ q ∷ []) (k + 0) (next-ready t H h q f w) (n .1))
+      (counted qs (q .«timestamp_ms») H (k + 1) (later t H h q (n .0)) (n .1)) (judged c q)
     where
-      go : t ≤ q .«timestamp_ms» → (passes H q ≡ false → checkQuote c q ≡ Fine → Counted (H ++ q ∷ []) qs (k + 0) (recorded c qs (k + 0) (held c (H ++ q ∷ [])))) → Counted H qs (k + 1) (recorded c qs (k + 1) (held c H)) → Judged (checkQuote c q) → Counted H (q ∷ qs) k (recorded c (q ∷ qs) k (held c H))
+      go : t ≤ q .«timestamp_ms»
+          → (passes H q ≡ false → checkQuote c q ≡ Fine → Counted (H ++ q ∷ []) qs (k + 0) (recorded c qs (k + 0) (held c (H ++ q ∷ []))))
+          → Counted H qs (k + 1) (recorded c qs (k + 1) (held c H)) → Judged (checkQuote c q) → Counted H (q ∷ qs) k (recorded c (q ∷ qs) k (held c H))
       go l f i (stopped j) = counted-stop t H qs q k h l (refusal 2) refl (rw j) (inl refl)
       go l f i (invalid x j a b) = counted-invalid t H qs q k h l x j a b i
       go l f i (fine j) = limits (passes H q) refl
@@ -232,7 +242,8 @@ module _ (c : MicroPriceConfig) (e : valid c ≡ true) where
     new-answers = all .answer-is
 
     -- if nothing does, its memory is that of the history of the quotes that 3 and 4 do not refuse, and the others are the invalid ones
-    pub new-left : recorded c qs 0 (fresh c) .answer ≡ Fine → recorded c qs 0 (fresh c) .left ≡ memoryOf (rule c) Nothing (zeros 2 (states c)) (filter (usable c) qs)
+    pub new-left : recorded c qs 0 (fresh c) .answer ≡ Fine
+        → recorded c qs 0 (fresh c) .left ≡ memoryOf (rule c) Nothing (zeros 2 (states c)) (filter (usable c) qs)
     new-left u = all .left-is u
 
     pub new-invalid : recorded c qs 0 (fresh c) .answer ≡ Fine → recorded c qs 0 (fresh c) .invalid ≡ count (unusable c) qs

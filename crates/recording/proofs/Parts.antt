@@ -33,23 +33,28 @@ module _ (start end : ℕ) where
       let r = none-after (q .«timestamp_ms») qs (k .1) (omega (arith, k .0)) in
       rw (le-ltb (q .«timestamp_ms») end (omega (arith, k .0)), r, and-false (leb start (q .«timestamp_ms»)))
 
-  picked : (t : ℕ) (qs : List TopOfBook) → sortedFrom t qs ≡ true → take (count (inside start end) qs) (drop (count (before start) qs) qs) ≡ filter (inside start end) qs
+  picked : (t : ℕ) (qs : List TopOfBook) → sortedFrom t qs ≡ true
+      → take (count (inside start end) qs) (drop (count (before start) qs) qs) ≡ filter (inside start end) qs
   picked t [] e = refl
   picked t (q ∷ qs) e =
       let k = sorted-known t q qs e in
       go (k .1) (picked (q .«timestamp_ms») qs (k .1)) (le-or-lt start (q .«timestamp_ms»)) (le-or-lt end (q .«timestamp_ms»))
     where
-      go : sortedFrom (q .«timestamp_ms») qs ≡ true → take (count (inside start end) qs) (drop (count (before start) qs) qs) ≡ filter (inside start end) qs → (start ≤ q .«timestamp_ms») ⊎ (q .«timestamp_ms» < start) → (end ≤ q .«timestamp_ms») ⊎ (q .«timestamp_ms» < end) → take (count (inside start end) (q ∷ qs)) (drop (count (before start) (q ∷ qs)) (q ∷ qs)) ≡ filter (inside start end) (q ∷ qs)
+      go : sortedFrom (q .«timestamp_ms») qs ≡ true → take (count (inside start end) qs) (drop (count (before start) qs) qs) ≡ filter (inside start end) qs
+          → (start ≤ q .«timestamp_ms») ⊎ (q .«timestamp_ms» < start) → (end ≤ q .«timestamp_ms») ⊎ (q .«timestamp_ms» < end)
+          → take (count (inside start end) (q ∷ qs)) (drop (count (before start) (q ∷ qs)) (q ∷ qs)) ≡ filter (inside start end) (q ∷ qs)
       go s r (inr a) b = rw (lt-ltb (q .«timestamp_ms») start a, lt-leb start (q .«timestamp_ms») a, one-add, zero-add) r
       go s r (inl a) (inl b) =
           let n = none-after (q .«timestamp_ms») qs s b in
           rw (le-ltb (q .«timestamp_ms») start a, le-leb start (q .«timestamp_ms») a, le-ltb (q .«timestamp_ms») end b, n) (rw n at r)
       go s r (inl a) (inr b) =
           let n = none-before (q .«timestamp_ms») start qs s a in
-          rw (le-ltb (q .«timestamp_ms») start a, le-leb start (q .«timestamp_ms») a, lt-ltb (q .«timestamp_ms») end b, n, one-add) (ap (λ (l : List TopOfBook). q ∷ l) (rw n at r))
+          rw (le-ltb (q .«timestamp_ms») start a, le-leb start (q .«timestamp_ms») a, lt-ltb (q .«timestamp_ms») end b, n, one-add)
+          (ap (λ (l : List TopOfBook). q ∷ l) (rw n at r))
 
   -- the part's quotes are the quotes inside
-  pub window-inside : (qs : List TopOfBook) → sorted qs ≡ true → take (endsOf start end qs .past - endsOf start end qs .first) (drop (endsOf start end qs .first) qs) ≡ filter (inside start end) qs
+  pub window-inside : (qs : List TopOfBook) → sorted qs ≡ true
+      → take (endsOf start end qs .past - endsOf start end qs .first) (drop (endsOf start end qs .first) qs) ≡ filter (inside start end) qs
   window-inside qs e =
       ap (λ (n : ℕ). take n (drop (count (before start) qs) qs))
       (let z : count (before start) qs + count (inside start end) qs - count (before start) qs ≡ count (inside start end) qs = omega arith in z)
@@ -105,7 +110,8 @@ module _ (w : List ℕ) (start end : ℕ) where
   handed-length f =
       part-length w (partEnds (windowOf w start end) .first) (partEnds (windowOf w start end) .past) (ends-lie w start end .0) (ends-lie w start end .1)
       ∙ ap (λ (x : Ends). 5 * (x .past - x .first)) (ends-are f)
-      ∙ (let z : 5 * (count (before start) (quotesOf w) + count (inside start end) (quotesOf w) - count (before start) (quotesOf w)) ≡ 5 * count (inside start end) (quotesOf w) = omega arith in z)
+      ∙ (let z : 5 * (count (before start) (quotesOf w) + count (inside start end) (quotesOf w) - count (before start) (quotesOf w)) ≡ 5 * count
+      (inside start end) (quotesOf w) = omega arith in z)
 
   -- empty exactly if the window is refused or holds no quote
   pub handed-empty : eqb (length handed) 0 ≡ (refuses (checkWindow w start end) || not (any (inside start end) (quotesOf w)))
@@ -114,4 +120,5 @@ module _ (w : List ℕ) (start end : ℕ) where
       go : (k : Check) → checkWindow w start end ≡ k → eqb (length handed) 0 ≡ (refuses k || not (any (inside start end) (quotesOf w)))
       go (Check.Refused r) f = ap (λ (l : List ℕ). eqb (length l) 0) (handed-none r f)
       go Check.Fine f =
-          ap (λ (n : ℕ). eqb n 0) (handed-length f) ∙ none-counted (count (inside start end) (quotesOf w)) ∙ sym (ap not (any-count (inside start end) (quotesOf w)))
+          ap (λ (n : ℕ). eqb n 0) (handed-length f) ∙ none-counted (count (inside start end) (quotesOf w))
+          ∙ sym (ap not (any-count (inside start end) (quotesOf w)))

@@ -44,7 +44,8 @@ module _ (w : List ℕ) where
   sorted-end t i h = rw (quotes-end i h)
 
 -- what is known of times in order
-pub sorted-known : (t : ℕ) (q : TopOfBook) (qs : List TopOfBook) → sortedFrom t (q ∷ qs) ≡ true → (t ≤ q .«timestamp_ms») × (sortedFrom (q .«timestamp_ms») qs ≡ true)
+pub sorted-known : (t : ℕ) (q : TopOfBook) (qs : List TopOfBook) → sortedFrom t (q ∷ qs) ≡ true
+    → (t ≤ q .«timestamp_ms») × (sortedFrom (q .«timestamp_ms») qs ≡ true)
 sorted-known t q qs e =
     let b = both (leb t (q .«timestamp_ms»)) (sortedFrom (q .«timestamp_ms») qs) e in
     (leb-true t (q .«timestamp_ms») (b .0), b .1)
@@ -122,7 +123,8 @@ module _ (w : List ℕ) (a e : ℕ) (from : a ≤ e) (to : e ≤ length w / 5) w
       short =
           length-take-le (e - a) (drop a (quotesOf w)) (rw (length-drop a (quotesOf w), quotes-length w) (omega arith))
 
-      at : (i : ℕ) → i < length (quotesOf (partOf a e w)) → getD (quotesOf (partOf a e w)) i (quoteAt w 0) ≡ getD (take (e - a) (drop a (quotesOf w))) i (quoteAt w 0)
+      at : (i : ℕ) → i < length (quotesOf (partOf a e w))
+          → getD (quotesOf (partOf a e w)) i (quoteAt w 0) ≡ getD (take (e - a) (drop a (quotesOf w))) i (quoteAt w 0)
       at i h =
           let b : i < e - a = omega (arith, long) in
           let l = part-length in

@@ -30,7 +30,8 @@ pub one-most : (k : Check) (n : ℕ) → n ≡ bit (isInvalid k) → n ≤ 1
 one-most k n e = omega (arith, bit-most (isInvalid k))
 
 -- one quote of a list
-module _ {Last Quote : Type 0} (f : Memory Last → Quote → Outcome Last) (q : Quote) (qs : List Quote) (k : ℕ) (m : Memory Last) (o : Outcome Last) (e : o ≡ f m q) where
+module _ {Last Quote : Type 0} (f : Memory Last → Quote → Outcome Last) (q : Quote) (qs : List Quote) (k : ℕ) (m : Memory Last) (o : Outcome Last)
+    (e : o ≡ f m q) where
   -- that does not stop it
   pub goes-on : isStop (o .answer) ≡ false → recordedBy f (q ∷ qs) k m ≡ recordedBy f qs (k + bit (isInvalid (o .answer))) (o .left)
   goes-on s = rw (← e, s)
@@ -45,7 +46,8 @@ module _ {Last : Type 0} (f : Memory Last → TopOfBook → Outcome Last) (w : L
     from-here =
         ap (λ (l : List TopOfBook). recordedBy f l k m) (quotes-step w i h ∙ ap (λ (p : TopOfBook). p ∷ drop (i + 1) (quotesOf w)) (sym eq))
 
-    pub run-on : isStop (o .answer) ≡ false → (b : ℕ) → b ≡ bit (isInvalid (o .answer)) → recordedBy f (drop i (quotesOf w)) k m ≡ recordedBy f (drop (i + 1) (quotesOf w)) (k + b) (o .left)
+    pub run-on : isStop (o .answer) ≡ false → (b : ℕ) → b ≡ bit (isInvalid (o .answer))
+        → recordedBy f (drop i (quotesOf w)) k m ≡ recordedBy f (drop (i + 1) (quotesOf w)) (k + b) (o .left)
     run-on s b e = rw e (from-here ∙ goes-on f q (drop (i + 1) (quotesOf w)) k m o eo s)
 
     pub run-stop : isStop (o .answer) ≡ true → recordedBy f (drop i (quotesOf w)) k m ≡ recordedAs (o .answer) k (o .left)

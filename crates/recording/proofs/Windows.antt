@@ -52,7 +52,8 @@ none-before t x (q ∷ qs) e h =
     let r = none-before (q .«timestamp_ms») x qs (k .1) (omega (arith, k .0)) in
     rw (le-ltb (q .«timestamp_ms») x (omega (arith, k .0)), r)
 
-before-above : (t x : ℕ) (qs : List TopOfBook) (i : ℕ) (d : TopOfBook) → sortedFrom t qs ≡ true → i < length qs → getD qs i d .«timestamp_ms» < x → i < count (before x) qs
+before-above : (t x : ℕ) (qs : List TopOfBook) (i : ℕ) (d : TopOfBook) → sortedFrom t qs ≡ true → i < length qs → getD qs i d .«timestamp_ms» < x
+    → i < count (before x) qs
 before-above t x [] i d e h l = absurd (not-suc-le-zero h)
 before-above t x (q ∷ qs) zero d e h l = rw (lt-ltb (q .«timestamp_ms») x l) (omega arith)
 before-above t x (q ∷ qs) (suc i) d e h l =
@@ -61,7 +62,8 @@ before-above t x (q ∷ qs) (suc i) d e h l =
     let r = before-above (q .«timestamp_ms») x qs i d (k .1) (le-of-suc-le-suc h) l in
     rw (lt-ltb (q .«timestamp_ms») x (omega arith)) (omega arith)
 
-before-below : (t x : ℕ) (qs : List TopOfBook) (i : ℕ) (d : TopOfBook) → sortedFrom t qs ≡ true → i < length qs → x ≤ getD qs i d .«timestamp_ms» → count (before x) qs ≤ i
+before-below : (t x : ℕ) (qs : List TopOfBook) (i : ℕ) (d : TopOfBook) → sortedFrom t qs ≡ true → i < length qs → x ≤ getD qs i d .«timestamp_ms»
+    → count (before x) qs ≤ i
 before-below t x [] i d e h l = absurd (not-suc-le-zero h)
 before-below t x (q ∷ qs) zero d e h l =
     let k = sorted-known t q qs e in
@@ -93,7 +95,8 @@ module _ (start end : ℕ) where
   before-split h [] = refl
   before-split h (q ∷ qs) = omega (arith, one (le-or-lt start (q .«timestamp_ms»)) (le-or-lt end (q .«timestamp_ms»)), before-split h qs)
     where
-      one : (start ≤ q .«timestamp_ms») ⊎ (q .«timestamp_ms» < start) → (end ≤ q .«timestamp_ms») ⊎ (q .«timestamp_ms» < end) → bit (before end q) ≡ bit (before start q) + bit (inside start end q)
+      one : (start ≤ q .«timestamp_ms») ⊎ (q .«timestamp_ms» < start) → (end ≤ q .«timestamp_ms») ⊎ (q .«timestamp_ms» < end)
+          → bit (before end q) ≡ bit (before start q) + bit (inside start end q)
       one (inl a) (inl b) = rw (le-ltb (q .«timestamp_ms») end b, le-ltb (q .«timestamp_ms») start a, le-leb start (q .«timestamp_ms») a)
       one (inl a) (inr b) = rw (lt-ltb (q .«timestamp_ms») end b, le-ltb (q .«timestamp_ms») start a, le-leb start (q .«timestamp_ms») a)
       one (inr a) (inl b) = absurd (omega arith)
@@ -149,7 +152,8 @@ module _ (w : List ℕ) (start end : ℕ) where
     pub way-unsorted : sorted (quotesOf w) ≡ false → Refused (refusal 14) ≡ windowOf w start end
     way-unsorted e =
         rw (eq-eqb (length w % 5) 0 even)
-        (sym (ap (λ (s : Bool). windowUnless (firstOf (refuseIf (not s) 14) (refuseIf (backward start end (quotesOf w)) 15)) (endsOf start end (quotesOf w))) e))
+        (sym (ap (λ (s : Bool). windowUnless (firstOf (refuseIf (not s) 14) (refuseIf (backward start end (quotesOf w)) 15)) (endsOf start end (quotesOf w)))
+        e))
 
     module _ (f p : ℕ) (e : sorted (quotesOf w) ≡ true) (ef : f ≡ count (before start) (quotesOf w)) (ep : p ≡ count (before end) (quotesOf w)) where
       back : ltb p f ≡ backward start end (quotesOf w)
@@ -167,7 +171,9 @@ module _ (w : List ℕ) (start end : ℕ) where
   pub ends-lie : (partEnds (windowOf w start end) .first ≤ partEnds (windowOf w start end) .past) × (partEnds (windowOf w start end) .past ≤ length w / 5)
   ends-lie = go (checkWindow w start end)
     where
-      go : (k : Check) → (partEnds (windowUnless k (endsOf start end (quotesOf w))) .first ≤ partEnds (windowUnless k (endsOf start end (quotesOf w))) .past) × (partEnds (windowUnless k (endsOf start end (quotesOf w))) .past ≤ length w / 5)
+      go : (k : Check)
+          → (partEnds (windowUnless k (endsOf start end (quotesOf w))) .first ≤ partEnds (windowUnless k (endsOf start end (quotesOf w))) .past)
+          × (partEnds (windowUnless k (endsOf start end (quotesOf w))) .past ≤ length w / 5)
       go Check.Fine = (omega arith, omega (arith, ends-most start end (quotesOf w), quotes-length w))
       go (Check.Refused r) = (omega arith, omega arith)
 

@@ -3,7 +3,6 @@ use Prim.Native.Nat.{ℕ, _+_}
 use mathlib.Core.Bool.{Bool, false, not, cond, _&&_, _||_}
 use mathlib.Core.List.{List, [], _∷_}
 use lib.Dec.{eqb}
-use lib.IntN.{ℤ}
 use Rattle.basics.specs.Lists.{bit}
 use Rattle.refusals.specs.Refusals.{numberOf, refusal}
 use Rattle.refusals.specs.declared.Check.{Check}
@@ -12,10 +11,9 @@ use Rattle.config.specs.declared.MicroPriceConfig.{MicroPriceConfig}
 use Rattle.quotes.specs.Quotes.{checkQuote}
 use Rattle.quotes.specs.declared.TopOfBook.{TopOfBook}
 use Rattle.tally.specs.Rules.{Memory}
-use Rattle.calibrator.specs.Record.{memory, Outcome}
+use Rattle.calibrator.specs.Record.{Outcome}
 use Rattle.calibrator.specs.Observe.{refuses, observed}
 use Rattle.calibrator.specs.declared.Previous.{Previous}
-use Rattle.calibrator.specs.declared.Record.{Record}
 use Rattle.recording.specs.Recording.{quotesOf, uneven}
 
 -- 3 and 4, counted as invalid quotes
@@ -50,9 +48,6 @@ recorded c qs k m = recordedBy (observed c) qs k m
 -- 7 first, for a recording that is not a multiple of five words
 abbrev pub recordedOf : MicroPriceConfig → List ℕ → Memory Previous → RecordedOutcome Previous
 recordedOf c w m = cond (uneven w) (recordedAs (Refused (refusal 7)) 0 m) (recorded c (quotesOf w) 0 m)
-
-abbrev pub endRecorded : Check → ℕ → Record → List ℕ → List ℕ → List ℤ → RecordedOutcome Previous
-endRecorded a k r s m t = recordedAs a k (memory r s m t)
 
 -- a quote that 3 or 4 refuses, and one that they do not
 abbrev pub unusable : MicroPriceConfig → TopOfBook → Bool

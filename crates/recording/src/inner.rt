@@ -11,17 +11,18 @@ ghost use mathlib.Core.Path.{_≡_};
 ghost use mathlib.Core.Bool.{true};
 ghost use Prim.Native.Nat.{_+_, _*_, _≤_};
 ghost use lib.ListN.{length};
+ghost use Rattle.basics.specs.Loan.{given};
 ghost use Rattle.basics.specs.Lists.{bit, count};
-ghost use Rattle.calibrator.specs.Record.{memory};
+ghost use Rattle.calibrator.specs.Record.{came, remains};
 ghost use Rattle.recording.specs.Recording.{quoteAt, quotesOf, sorted};
 ghost use Rattle.recording.specs.Window.{before, partEnds};
-ghost use Rattle.recording.specs.Observe.{isInvalid, isStop, recordedOf, endRecorded};
+ghost use Rattle.recording.specs.Observe.{isInvalid, isStop, recordedOf, recordedAs};
 
 // ---- the recording
 
 pub fn quote_at(recording: &[u64], i: usize) -> TopOfBook
     requires { ⌜ 5 * i + 5 ≤ length (now recording) ⌝ }
-    ensures { λ q. ⌜ q ≡ quoteAt (now (recording .entry)) i ⌝ }
+    ensures { λ q. ⌜ q ≡ quoteAt (given recording) i ⌝ }
 {
     let at = 5 * i;
     TopOfBook {
@@ -34,7 +35,7 @@ pub fn quote_at(recording: &[u64], i: usize) -> TopOfBook
 }
 
 pub fn is_sorted(recording: &[u64]) -> bool
-    ensures { λ r. ⌜ r ≡ sorted (quotesOf (now (recording .entry))) ⌝ }
+    ensures { λ r. ⌜ r ≡ sorted (quotesOf (given recording)) ⌝ }
 {
     let n = recording.len() / 5;
     let mut last = 0;
@@ -55,7 +56,7 @@ pub fn is_sorted(recording: &[u64]) -> bool
 // How many quotes of a sorted recording are before a time. The halving needs the order, which `window_of` has judged.
 pub fn quotes_before(recording: &[u64], time: u64) -> usize
     requires { ⌜ sorted (quotesOf (now recording)) ≡ true ⌝ }
-    ensures { λ r. ⌜ r ≡ count (before time) (quotesOf (now (recording .entry))) ⌝ }
+    ensures { λ r. ⌜ r ≡ count (before time) (quotesOf (given recording)) ⌝ }
 {
     let mut low = 0;
     let mut high = recording.len() / 5;
@@ -116,7 +117,7 @@ pub fn observe_recording(
     config: MicroPriceConfig,
     recording: &[u64],
 ) -> Recorded
-    ensures { λ d. ⌜ endRecorded (d .answer) (d .invalid) (d .next) (now (stay .exit)) (now (moved .exit)) (now («move_half_ticks» .exit)) ≡ recordedOf config (now (recording .entry)) (memory rec (now (stay .entry)) (now (moved .entry)) (now («move_half_ticks» .entry))) ⌝ }
+    ensures { λ d. ⌜ recordedAs (d .answer) (d .invalid) (remains (d .next) stay moved «move_half_ticks») ≡ recordedOf config (given recording) (came rec stay moved «move_half_ticks») ⌝ }
 {
     if recording.len() % 5 != 0 {
         return Recorded {

@@ -1,4 +1,5 @@
-// Recordings: the window, and a recording counted into a calibrator (document 01, "The window", "An evening's calibration"). A recording is lent as a flat slice of five words a quote: time, bid, ask, bid size, ask size.
+// Recordings: the window, and a recording counted into a calibrator (document 01, "The window", "An evening's calibration"). A recording is lent as a flat
+// slice of five words a quote: time, bid, ask, bid size, ask size.
 use calibrator::Record;
 use refusals::Check;
 use refusals::Refusal;
@@ -6,6 +7,7 @@ use refusals::Refusal;
 pub mod inner;
 
 ghost use mathlib.Core.Path.{_≡_};
+ghost use Rattle.basics.specs.Loan.{given};
 ghost use Rattle.recording.specs.Window.{windowOf, partEnds, PartIn};
 
 // A part of a recording: its first quote, and the one past its last.
@@ -29,7 +31,7 @@ pub struct Recorded {
 
 // The part of a recording with start ≤ time < end.
 pub fn window_of(recording: &[u64], start: u64, end: u64) -> Window
-    ensures { λ r. ⌜ r ≡ windowOf (now (recording .entry)) start end ⌝ }
+    ensures { λ r. ⌜ r ≡ windowOf (given recording) start end ⌝ }
 {
     if recording.len() % 5 != 0 {
         return Window::Refused(Refusal::SliceLength);
@@ -47,7 +49,7 @@ pub fn window_of(recording: &[u64], start: u64, end: u64) -> Window
 
 // That part itself, empty exactly if `window_of` refuses or no quote is inside.
 pub fn quotes_in(recording: &[u64], start: u64, end: u64) -> &[u64]
-    ensures { λ r. ⌜ PartIn (partEnds (windowOf (now (recording .entry)) start end)) (recording .entry) r ⌝ }
+    ensures { λ r. ⌜ PartIn (partEnds (windowOf (given recording) start end)) (recording .entry) r ⌝ }
 {
     let ends = inner::part_ends(window_of(recording, start, end));
     let from = 5 * ends.first;

@@ -6,19 +6,19 @@ use mathlib.Core.Logic.{⊎-elim}
 use native.Mathlib.Nat.{eq-or-lt-of-le}
 use native.Mathlib.Numerals.{add-one}
 use native.Mathlib.Omega.{arith}
-use Rattle.basics.proofs.Tests.{still, gone}
+use Rattle.basics.proofs.Tests.{zero-not-one, still, gone}
 use Rattle.refusals.specs.Refusals.{refuseIf, firstOf, firstFrom}
 use Rattle.refusals.specs.declared.Check.{Check}
 use Rattle.refusals.specs.declared.Check.the-variants.{Fine, Refused}
 use Rattle.refusals.specs.declared.Refusal.{Refusal}
 
 pub if-fine : (t : Bool) (k : ℕ) → refuseIf t k ≡ Fine → t ≡ false
-if-fine true k e = absurd (let z : _≡_ {A = ℕ} 0 1 = cc in omega arith)
+if-fine true k e = absurd (zero-not-one cc)
 if-fine false k e = refl
 
 pub first-fine : (a b : Check) → firstOf a b ≡ Fine → (a ≡ Fine) × (b ≡ Fine)
 first-fine Fine b e = (refl, e)
-first-fine (Refused r) b e = absurd (let z : _≡_ {A = ℕ} 0 1 = cc in omega arith)
+first-fine (Refused r) b e = absurd (zero-not-one cc)
 
 module _ (f : ℕ → Check) where
   -- where a walk refuses nothing, no check of it does

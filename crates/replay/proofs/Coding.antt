@@ -39,7 +39,8 @@ module _ (room : ℕ) (w : List ℕ) (k : ℕ) where
     pub call-lies : isCall room w k ≡ true → startAt w k + longAt w k ≤ room
     call-lies e =
         leb-true (startAt w k + longAt w k) room
-        (both (leb (wordIn w k 0) 2) (leb (startAt w k + longAt w k) room) (sym (ap (λ (b : Bool). b || (leb (wordIn w k 0) 2 && leb (startAt w k + longAt w k) room)) no-quote) ∙ e) .1)
+        (both (leb (wordIn w k 0) 2) (leb (startAt w k + longAt w k) room)
+        (sym (ap (λ (b : Bool). b || (leb (wordIn w k 0) 2 && leb (startAt w k + longAt w k) room)) no-quote) ∙ e) .1)
 
     module _ (kind : getD w (6 * k) 0 ≤ 2) where
       is-part : leb (wordIn w k 0) 2 ≡ true

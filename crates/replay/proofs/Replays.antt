@@ -19,7 +19,8 @@ promised c s w ns r e = record { run-is = e; history-is = of-history }
     of-history o =
         let ks = callsFrom c w 0 (length ns) s in
         let d = demand-3 c (o .valid-is) (o .words) ks (o .own) in
-        let ran : run c (s .memory) ks ≡ record { answers = story c (newPast c) ks .answers; left = historyMemory c (story c (newPast c) ks .past .now) } = ap (λ (m : Memory Previous). run c m ks) (o .new) ∙ (λ i. record { answers = d .answers i; left = d .memory i }) in
+        let ran : run c (s .memory) ks ≡ record { answers = story c (newPast c) ks .answers; left = historyMemory c (story c (newPast c) ks .past .now) } =
+        ap (λ (m : Memory Previous). run c m ks) (o .new) ∙ (λ i. record { answers = d .answers i; left = d .memory i }) in
         e
         ∙ ap (λ (t : Bool). cond t (replayRun c s w (run c (s .memory) ks)) (replay BadEncoding ns s)) (o .coded)
         ∙ ap (replayRun c s w) ran

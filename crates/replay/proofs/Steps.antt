@@ -30,7 +30,8 @@ use Rattle.replay.proofs.Coding.{kind-is, kind-not}
 abbrev Ends : MicroPriceConfig → Memory Previous → Call → ℕ → Memory Previous → Type 0
 Ends c m l n left = (n ≡ answerNumber c (act c m l .answer)) × (left ≡ act c m l .left)
 
-pub quote-ends : (c : MicroPriceConfig) (m : Memory Previous) (q : TopOfBook) (o : Outcome Previous) (n : ℕ) → o ≡ observed c m q → n ≡ checkNumber (o .answer) → Ends c m (quote q) n (o .left)
+pub quote-ends : (c : MicroPriceConfig) (m : Memory Previous) (q : TopOfBook) (o : Outcome Previous) (n : ℕ) → o ≡ observed c m q → n ≡ checkNumber (o .answer)
+    → Ends c m (quote q) n (o .left)
 quote-ends c m q o n e h = (
   h ∙ ap (λ (p : Outcome Previous). checkNumber (p .answer)) e,
   ap (λ (p : Outcome Previous). p .left) e,
@@ -41,7 +42,8 @@ own-left : (k : Check) (b : List ℕ) (m : Memory Previous) → takenUnless k b 
 own-left Fine b m = refl
 own-left (Refused r) b m = refl
 
-pub restore-ends : (c : MicroPriceConfig) (m : Memory Previous) (b : List ℕ) (t : Taken) (n : ℕ) → t ≡ restored b m → n ≡ answerNumber c (restores (t .answer)) → Ends c m (restore b m) n (t .left)
+pub restore-ends : (c : MicroPriceConfig) (m : Memory Previous) (b : List ℕ) (t : Taken) (n : ℕ) → t ≡ restored b m → n ≡ answerNumber c (restores (t .answer))
+    → Ends c m (restore b m) n (t .left)
 restore-ends c m b t n e h = (
   h ∙ ap (λ (u : Taken). answerNumber c (restores (u .answer))) e,
   ap (λ (u : Taken). u .left) e ∙ own-left (restoreRefusal b (m .counts .tables)) b m,
@@ -86,18 +88,23 @@ module _ (c : MicroPriceConfig) (w : List ℕ) (k : ℕ) (m : Memory Previous) (
   is-restore : (getD w (6 * k) 0 ≡ 0 → ⊥) → (getD w (6 * k) 0 ≡ 1 → ⊥) → restore bytes m ≡ callAt w k here
   is-restore d e = rw (kind-not w k 0 d, kind-not w k 1 e)
 
-  pub step-quote : getD w (6 * k) 0 ≡ 0 → (q : TopOfBook) → q ≡ quoteAt w k → (n : ℕ) (m′ : Memory Previous) → Ends c m (quote q) n m′ → steppedTo n (record { memory = m′; room = room }) ≡ stepped c w k here
+  pub step-quote : getD w (6 * k) 0 ≡ 0 → (q : TopOfBook) → q ≡ quoteAt w k → (n : ℕ) (m′ : Memory Previous) → Ends c m (quote q) n m′
+      → steppedTo n (record { memory = m′; room = room }) ≡ stepped c w k here
   step-quote e q eq n m′ p =
       (λ i. steppedTo (p .0 i) (record { memory = p .1 i; room = room })) ∙ ap steppedBy (ap quote eq ∙ is-quote e)
 
-  pub step-save : (getD w (6 * k) 0 ≡ 0 → ⊥) → getD w (6 * k) 0 ≡ 1 → startAt w k + longAt w k ≤ length room → (a : Check) (ys : List ℕ) → endSave a ys ≡ saved c m (take lent (drop (startAt w k) room)) → length ys ≡ length (midOf (startAt w k) lent room) → (n : ℕ) → n ≡ checkNumber a → steppedTo n (record { memory = m; room = putMid (startAt w k) lent room ys }) ≡ stepped c w k here
+  pub step-save : (getD w (6 * k) 0 ≡ 0 → ⊥) → getD w (6 * k) 0 ≡ 1 → startAt w k + longAt w k ≤ length room → (a : Check) (ys : List ℕ)
+      → endSave a ys ≡ saved c m (take lent (drop (startAt w k) room)) → length ys ≡ length (midOf (startAt w k) lent room) → (n : ℕ) → n ≡ checkNumber a
+      → steppedTo n (record { memory = m; room = putMid (startAt w k) lent room ys }) ≡ stepped c w k here
   step-save d e h a ys es el n en =
       let s : endSave a ys ≡ saved c m bytes = es ∙ ap (saved c m) (part-is (startAt w k) (longAt w k) room) in
       let N : n ≡ checkNumber (saved c m bytes .answer) = en ∙ ap (λ (t : Saved). checkNumber (t .answer)) s in
-      let R : putMid (startAt w k) lent room ys ≡ sets room (startAt w k) (saved c m bytes .output) = put-is (startAt w k) (longAt w k) room ys h el ∙ ap (λ (t : Saved). sets room (startAt w k) (t .output)) s in
+      let R : putMid (startAt w k) lent room ys ≡ sets room (startAt w k) (saved c m bytes .output) =
+      put-is (startAt w k) (longAt w k) room ys h el ∙ ap (λ (t : Saved). sets room (startAt w k) (t .output)) s in
       (λ i. steppedTo (N i) (record { memory = m; room = R i })) ∙ ap steppedBy (is-save d e)
 
-  pub step-restore : (getD w (6 * k) 0 ≡ 0 → ⊥) → (getD w (6 * k) 0 ≡ 1 → ⊥) → (n : ℕ) (m′ : Memory Previous) → Ends c m (restore (take lent (drop (startAt w k) room)) m) n m′ → steppedTo n (record { memory = m′; room = room }) ≡ stepped c w k here
+  pub step-restore : (getD w (6 * k) 0 ≡ 0 → ⊥) → (getD w (6 * k) 0 ≡ 1 → ⊥) → (n : ℕ) (m′ : Memory Previous)
+      → Ends c m (restore (take lent (drop (startAt w k) room)) m) n m′ → steppedTo n (record { memory = m′; room = room }) ≡ stepped c w k here
   step-restore d e n m′ p =
       (λ i. steppedTo (p .0 i) (record { memory = p .1 i; room = room }))
       ∙ ap steppedBy (ap (λ (l : List ℕ). restore l m) (part-is (startAt w k) (longAt w k) room) ∙ is-restore d e)
@@ -121,7 +128,8 @@ module _ (f : ℕ → Site → Stepped) (m k : ℕ) (s s′ : Site) (a : ℕ) (h
       ∙ (λ i. endFrom f (suc k) (m - (k + 1)) (sym e i .after))
       ∙ ap (λ (j : ℕ). endFrom f j (m - (k + 1)) s′) (sym (add-one k))
 
-  pub numbers-step : (ns : List ℕ) → m ≡ length ns → take k ns ++ numbersFrom f k (m - k) s ≡ take (k + 1) (set ns k a) ++ numbersFrom f (k + 1) (m - (k + 1)) s′
+  pub numbers-step : (ns : List ℕ) → m ≡ length ns
+      → take k ns ++ numbersFrom f k (m - k) s ≡ take (k + 1) (set ns k a) ++ numbersFrom f (k + 1) (m - (k + 1)) s′
   numbers-step ns l =
       rw (still k m h, ← e, add-one, take-suc-set ns k a (omega arith), append-snoc (take k ns) a)
 
@@ -150,9 +158,13 @@ module _ (c : MicroPriceConfig) (w : List ℕ) where
   pub replay-bad : (s : Site) (ns : List ℕ) → wellCoded (length (s .room)) (length ns) w ≡ false → replay BadEncoding ns s ≡ replayed c s w ns
   replay-bad s ns e = rw e
 
-  pub replay-done : (s s′ : Site) (ns ns′ : List ℕ) → wellCoded (length (s .room)) (length ns) w ≡ true → ns′ ≡ numbersFrom (stepped c w) 0 (length ns) s → s′ ≡ endFrom (stepped c w) 0 (length ns) s → replay Done ns′ s′ ≡ replayed c s w ns
+  pub replay-done : (s s′ : Site) (ns ns′ : List ℕ) → wellCoded (length (s .room)) (length ns) w ≡ true → ns′ ≡ numbersFrom (stepped c w) 0 (length ns) s
+      → s′ ≡ endFrom (stepped c w) 0 (length ns) s → replay Done ns′ s′ ≡ replayed c s w ns
   replay-done s s′ ns ns′ e p q =
       rw e
       (λ i.
       replay Done ((p ∙ sym (run-numbers 0 (length ns) s)) i)
-      (record { memory = (ap (λ (t : Site). t .memory) q ∙ sym (run-memory 0 (length ns) s)) i; room = (ap (λ (t : Site). t .room) q ∙ sym (run-room 0 (length ns) s)) i }))
+      (record {
+        memory = (ap (λ (t : Site). t .memory) q ∙ sym (run-memory 0 (length ns) s)) i;
+        room = (ap (λ (t : Site). t .room) q ∙ sym (run-room 0 (length ns) s)) i;
+      }))

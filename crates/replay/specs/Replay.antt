@@ -1,5 +1,6 @@
 -- An encoded list of calls, run by the operations on lent memory, with lent room for images.
--- A call is six words: its kind, 0 a quote, 1 a save, 2 a restore; then a quote's five words, or where its bytes begin in the room, how many they are, and three words of any content. A restore is into the calibrator's own record and tables.
+-- A call is six words: its kind, 0 a quote, 1 a save, 2 a restore; then a quote's five words, or where its bytes begin in the room, how many they are, and
+-- three words of any content. A restore is into the calibrator's own record and tables.
 use Prim.Native.Nat.{ℕ, zero, suc, _+_, _*_}
 use mathlib.Core.Path.{_≡_}
 use mathlib.Core.Bool.{Bool, true, cond, _&&_, _||_}
@@ -9,12 +10,13 @@ use lib.IntN.{ℤ}
 use lib.ListN.{length, getD, take, drop}
 use lib.Seq.{sets}
 use Rattle.basics.specs.Lists.{allFrom}
+use Rattle.basics.specs.Loan.{Loan, given, final}
 use Rattle.refusals.specs.Refusals.{numberOf, checkNumber}
 use Rattle.config.specs.Configuration.{valid}
 use Rattle.config.specs.declared.MicroPriceConfig.{MicroPriceConfig}
 use Rattle.quotes.specs.declared.TopOfBook.{TopOfBook}
 use Rattle.tally.specs.Rules.{Memory}
-use Rattle.calibrator.specs.Record.{memory}
+use Rattle.calibrator.specs.Record.{memory, came, remains}
 use Rattle.calibrator.specs.Observe.{fresh}
 use Rattle.calibrator.specs.declared.Previous.{Previous}
 use Rattle.calibrator.specs.declared.Record.{Record}
@@ -63,6 +65,13 @@ pub record Site : Type 0 where
 
 abbrev pub site : Record → List ℕ → List ℕ → List ℤ → List ℕ → Site
 site r s m t room = record { memory = memory r s m t; room = room }
+
+-- as `came` and `remains` of a calibrator (calibrator, specs/Record.antt)
+abbrev pub siteCame : Record → Loan (List ℕ) → Loan (List ℕ) → Loan (List ℤ) → Loan (List ℕ) → Site
+siteCame r s m t room = record { memory = came r s m t; room = given room }
+
+abbrev pub siteRemains : Record → Loan (List ℕ) → Loan (List ℕ) → Loan (List ℤ) → Loan (List ℕ) → Site
+siteRemains r s m t room = record { memory = remains r s m t; room = final room }
 
 abbrev pub callAt : List ℕ → ℕ → Site → Call
 callAt w k s =

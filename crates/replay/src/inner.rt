@@ -9,11 +9,11 @@ use refusals::Check;
 ghost use mathlib.Core.Path.{_≡_};
 ghost use mathlib.Core.Bool.{true, false};
 ghost use Prim.Native.Nat.{_+_, _*_, _≤_, _<_};
-ghost use lib.Dec.{eqb, leb};
-ghost use lib.ListN.{length, take, drop};
-ghost use Rattle.calibrator.specs.Record.{memory};
+ghost use lib.ListN.{length};
+ghost use Rattle.basics.specs.Loan.{given, final};
+ghost use Rattle.calibrator.specs.Record.{came, remains};
 ghost use Rattle.history.specs.Calls.{quote, restore, restores, act};
-ghost use Rattle.replay.specs.Replay.{wordIn, quoteAt, startAt, longAt, isCall, wellCoded, site, siteAfter, sameConfig, answerNumber, steppedTo, stepped, Promised, replay as replays};
+ghost use Rattle.replay.specs.Replay.{quoteAt, isCall, wellCoded, siteCame, siteRemains, sameConfig, answerNumber, steppedTo, stepped, Promised, replay as replays};
 
 // A call's answer as a number, and the record as it is left.
 pub struct CallDone {
@@ -56,7 +56,7 @@ fn restored_number(c: MicroPriceConfig, a: Restored) -> u64
 
 fn is_call(calls: &[u64], k: usize, room: usize) -> bool
     requires { ⌜ 6 * k + 6 ≤ length (now calls) ⌝ }
-    ensures { λ r. ⌜ r ≡ isCall room (now (calls .entry)) k ⌝ }
+    ensures { λ r. ⌜ r ≡ isCall room (given calls) k ⌝ }
 {
     let at = 6 * k;
     let kind = calls[at];
@@ -75,7 +75,7 @@ fn is_call(calls: &[u64], k: usize, room: usize) -> bool
 }
 
 fn is_well_coded(calls: &[u64], room: usize, answers: usize) -> bool
-    ensures { λ r. ⌜ r ≡ wellCoded room answers (now (calls .entry)) ⌝ }
+    ensures { λ r. ⌜ r ≡ wellCoded room answers (given calls) ⌝ }
 {
     if calls.len() % 6 != 0 {
         return false;
@@ -95,7 +95,7 @@ fn is_well_coded(calls: &[u64], room: usize, answers: usize) -> bool
 
 fn quote_at(calls: &[u64], k: usize) -> TopOfBook
     requires { ⌜ 6 * k + 6 ≤ length (now calls) ⌝ }
-    ensures { λ q. ⌜ q ≡ quoteAt (now (calls .entry)) k ⌝ }
+    ensures { λ q. ⌜ q ≡ quoteAt (given calls) k ⌝ }
 {
     let at = 6 * k;
     TopOfBook {
@@ -117,7 +117,8 @@ fn replay_quote(
     config: MicroPriceConfig,
     next: TopOfBook,
 ) -> CallDone
-    ensures { λ d. ⌜ (d .answer ≡ answerNumber config (act config (memory rec (now (stay .entry)) (now (moved .entry)) (now («move_half_ticks» .entry))) (quote next) .answer)) × (memory (d .next) (now (stay .exit)) (now (moved .exit)) (now («move_half_ticks» .exit)) ≡ act config (memory rec (now (stay .entry)) (now (moved .entry)) (now («move_half_ticks» .entry))) (quote next) .left) ⌝ }
+    ensures { λ d. ⌜ (let done = act config (came rec stay moved «move_half_ticks») (quote next) in
+        (d .answer ≡ answerNumber config (done .answer)) × (remains (d .next) stay moved «move_half_ticks» ≡ done .left)) ⌝ }
 {
     let done = calibrator::inner::observe(rec, stay, moved, move_half_ticks, config, next);
     let answer = done.answer;
@@ -136,7 +137,8 @@ fn replay_restore(
     config: MicroPriceConfig,
     bytes: &[u8],
 ) -> CallDone
-    ensures { λ d. ⌜ (d .answer ≡ answerNumber config (act config (memory rec (now (stay .entry)) (now (moved .entry)) (now («move_half_ticks» .entry))) (restore (now (bytes .entry)) (memory rec (now (stay .entry)) (now (moved .entry)) (now («move_half_ticks» .entry)))) .answer)) × (memory (d .next) (now (stay .exit)) (now (moved .exit)) (now («move_half_ticks» .exit)) ≡ act config (memory rec (now (stay .entry)) (now (moved .entry)) (now («move_half_ticks» .entry))) (restore (now (bytes .entry)) (memory rec (now (stay .entry)) (now (moved .entry)) (now («move_half_ticks» .entry)))) .left) ⌝ }
+    ensures { λ d. ⌜ (let m = came rec stay moved «move_half_ticks» in let done = act config m (restore (given bytes) m) in
+        (d .answer ≡ answerNumber config (done .answer)) × (remains (d .next) stay moved «move_half_ticks» ≡ done .left)) ⌝ }
 {
     let done = image::inner::restore(rec, bytes, stay, moved, move_half_ticks);
     let answer = done.answer;
@@ -159,7 +161,7 @@ fn replay_call(
     room: &mut [u8],
 ) -> CallDone
     requires { ⌜ (6 * k + 6 ≤ length (now calls)) × (isCall (length (now room)) (now calls) k ≡ true) ⌝ }
-    ensures { λ d. ⌜ steppedTo (d .answer) (site (d .next) (now (stay .exit)) (now (moved .exit)) (now («move_half_ticks» .exit)) (now (room .exit))) ≡ stepped config (now (calls .entry)) k (site rec (now (stay .entry)) (now (moved .entry)) (now («move_half_ticks» .entry)) (now (room .entry))) ⌝ }
+    ensures { λ d. ⌜ steppedTo (d .answer) (siteRemains (d .next) stay moved «move_half_ticks» room) ≡ stepped config (given calls) k (siteCame rec stay moved «move_half_ticks» room) ⌝ }
 {
     let at = 6 * k;
     let kind = calls[at];
@@ -199,7 +201,8 @@ pub fn replay(
     room: &mut [u8],
     answers: &mut [u64],
 ) -> ReplayDone
-    ensures { λ d. ⌜ Promised config (site rec (now (stay .entry)) (now (moved .entry)) (now («move_half_ticks» .entry)) (now (room .entry))) (now (calls .entry)) (now (answers .entry)) (replays (d .answer) (now (answers .exit)) (site (d .next) (now (stay .exit)) (now (moved .exit)) (now («move_half_ticks» .exit)) (now (room .exit)))) ⌝ }
+    ensures { λ d. ⌜ Promised config (siteCame rec stay moved «move_half_ticks» room) (given calls) (given answers)
+        (replays (d .answer) (final answers) (siteRemains (d .next) stay moved «move_half_ticks» room)) ⌝ }
 {
     if !is_well_coded(calls, room.len(), answers.len()) {
         return ReplayDone {

@@ -4,7 +4,8 @@ use config::MicroPriceConfig;
 
 pub mod inner;
 
-ghost use Rattle.replay.specs.Replay.{site, Promised, replay as replays};
+ghost use Rattle.basics.specs.Loan.{given, final};
+ghost use Rattle.replay.specs.Replay.{siteCame, siteRemains, Promised, replay as replays};
 
 // What a replay answers. A bad encoding changes nothing.
 pub enum Replayed {
@@ -18,7 +19,8 @@ pub struct ReplayDone {
     pub next: Record,
 }
 
-// Runs an encoded list of calls and writes each one's answer. A call is six words: 0 and a quote; 1 (save) or 2 (restore), where its bytes begin in the room, how many they are, and three words of any content.
+// Runs an encoded list of calls and writes each one's answer. A call is six words: 0 and a quote; 1 (save) or 2 (restore), where its bytes begin in the room,
+// how many they are, and three words of any content.
 pub fn replay(
     rec: &mut Record,
     stay: &mut [u64],
@@ -29,7 +31,8 @@ pub fn replay(
     room: &mut [u8],
     answers: &mut [u64],
 ) -> Replayed
-    ensures { λ r. ⌜ Promised config (site (now (rec .entry)) (now (stay .entry)) (now (moved .entry)) (now («move_half_ticks» .entry)) (now (room .entry))) (now (calls .entry)) (now (answers .entry)) (replays r (now (answers .exit)) (site (now (rec .exit)) (now (stay .exit)) (now (moved .exit)) (now («move_half_ticks» .exit)) (now (room .exit)))) ⌝ }
+    ensures { λ r. ⌜ Promised config (siteCame (given rec) stay moved «move_half_ticks» room) (given calls) (given answers)
+        (replays r (final answers) (siteRemains (final rec) stay moved «move_half_ticks» room)) ⌝ }
 {
     let done = inner::replay(
         *rec,

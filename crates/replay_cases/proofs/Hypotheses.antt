@@ -10,8 +10,46 @@ use Rattle.replay_cases.specs.Journal.{setup, journal, start}
 
 own : OwnImages setup (newPast setup) (callsFrom setup journal 0 16 start)
 unfolding header headerIn
-own =
-    ((omega arith, (omega arith, (omega arith, (omega arith, (omega arith, (omega arith, tt)))))), ((omega arith, (omega arith, (omega arith, (omega arith, (omega arith, (omega arith, tt)))))), (tt, ((omega arith, (omega arith, (omega arith, (omega arith, (omega arith, (omega arith, tt)))))), ((omega arith, (omega arith, (omega arith, (omega arith, (omega arith, (omega arith, tt)))))), ((omega arith, (omega arith, (omega arith, (omega arith, (omega arith, (omega arith, tt)))))), ((omega arith, (omega arith, (omega arith, (omega arith, (omega arith, (omega arith, tt)))))), ((omega arith, (omega arith, (omega arith, (omega arith, (omega arith, (omega arith, tt)))))), (tt, (tt, (tt, (tt, ((omega arith, (omega arith, (omega arith, (omega arith, (omega arith, (omega arith, tt)))))), (tt, ((omega arith, (omega arith, (omega arith, (omega arith, (omega arith, (omega arith, tt)))))), (tt, tt))))))))))))))))
+own = (
+  (omega arith, (omega arith, (omega arith, (omega arith, (omega arith, (omega arith, tt)))))),
+  (
+    (omega arith, (omega arith, (omega arith, (omega arith, (omega arith, (omega arith, tt)))))),
+    (
+      tt,
+      (
+        (omega arith, (omega arith, (omega arith, (omega arith, (omega arith, (omega arith, tt)))))),
+        (
+          (omega arith, (omega arith, (omega arith, (omega arith, (omega arith, (omega arith, tt)))))),
+          (
+            (omega arith, (omega arith, (omega arith, (omega arith, (omega arith, (omega arith, tt)))))),
+            (
+              (omega arith, (omega arith, (omega arith, (omega arith, (omega arith, (omega arith, tt)))))),
+              (
+                (omega arith, (omega arith, (omega arith, (omega arith, (omega arith, (omega arith, tt)))))),
+                (
+                  tt,
+                  (
+                    tt,
+                    (
+                      tt,
+                      (
+                        tt,
+                        (
+                          (omega arith, (omega arith, (omega arith, (omega arith, (omega arith, (omega arith, tt)))))),
+                          (tt, ((omega arith, (omega arith, (omega arith, (omega arith, (omega arith, (omega arith, tt)))))), (tt, tt))),
+                        ),
+                      ),
+                    ),
+                  ),
+                ),
+              ),
+            ),
+          ),
+        ),
+      ),
+    ),
+  ),
+)
 
 pub own-calls : OwnCalls setup start journal (replicate {A = ℕ} 16 0)
 own-calls =

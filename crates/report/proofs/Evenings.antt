@@ -16,7 +16,8 @@ use Rattle.text.specs.declared.Request.{Request}
 use Rattle.lines.specs.Lines.{PutIn}
 use Rattle.report.specs.Printed.{configOf, newRecord, Zeros, eveningOf, outcomeText, mostBytes}
 
-pub evening-zeros : (r : Request) (ws : List ℕ) (c : MicroPriceConfig) (x : Record) (stay moved : List ℕ) (totals : List ℤ) (scratch : List Float) (model : List ℕ)
+pub evening-zeros : (r : Request) (ws : List ℕ) (c : MicroPriceConfig) (x : Record) (stay moved : List ℕ) (totals : List ℤ) (scratch : List Float)
+    (model : List ℕ)
     → c ≡ configOf r
     → x ≡ newRecord
     → Zeros (states (configOf r)) stay moved totals scratch model
@@ -24,7 +25,8 @@ pub evening-zeros : (r : Request) (ws : List ℕ) (c : MicroPriceConfig) (x : Re
 evening-zeros r ws c x stay moved totals scratch model e f z =
     λ i. calibrated (e i) (memory (f i) (z .stay-is i) (z .moved-is i) (z .totals-is i)) ws (r .start) (r .end) (z .model-is i) (z .scratch-is i)
 
-pub outcome-text : {n N : ℕ} {o p : EveningOutcome} {out left : List ℕ} {k : ℕ} → n ≡ N → o ≡ p → PutIn mostBytes out 0 (outcomeText n o) k left → PutIn mostBytes out 0 (outcomeText N p) k left
+pub outcome-text : {n N : ℕ} {o p : EveningOutcome} {out left : List ℕ} {k : ℕ} → n ≡ N → o ≡ p → PutIn mostBytes out 0 (outcomeText n o) k left
+    → PutIn mostBytes out 0 (outcomeText N p) k left
 outcome-text {out = out} {left = left} {k = k} e f h = subst (λ (l : List ℕ). PutIn mostBytes out 0 l k left) (λ i. outcomeText (e i) (f i)) h
 
 -- ---- memory cut from arrays of zeros
@@ -35,7 +37,8 @@ front x (suc k) zero h = absurd (omega arith)
 front x (suc k) (suc m) h = ap (λ l. x ∷ l) (front x k m (omega arith))
 
 pub cut-zeros : (a b d e n cells room : ℕ) → (cells ≡ n * n) × (cells ≤ a) → n ≤ b → (room ≡ n * (2 * n + 10)) × (room ≤ d) → 7 * n ≤ e
-    → Zeros n (take cells (replicate a 0)) (take cells (replicate a 0)) (take n (replicate b (pos 0))) (take room (replicate d posZero)) (take (7 * n) (replicate e 0))
+    → Zeros n (take cells (replicate a 0)) (take cells (replicate a 0)) (take n (replicate b (pos 0))) (take room (replicate d posZero))
+    (take (7 * n) (replicate e 0))
 cut-zeros a b d e n cells room (p, s) t (q, u) v =
     record {
       stay-is = front 0 cells a s ∙ ap (λ k. replicate k 0) p;

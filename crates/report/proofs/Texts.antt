@@ -18,7 +18,8 @@ use Rattle.report.specs.Printed.{printed, eveningText, mostBytes, textFo
 
 -- the reading behind an answer: a request and the words in front of the recording, or bad input
 module _ (b before left : List ℕ) (x : Read) (r : ReadBy (readText b) before x left) where
-  pub asked-by : {q : Request} → x ≡ Read.Request q → 5000 ≤ length before → (readText b ≡ asked q (take (5 * q .quotes) left)) × Admissible q (take (5 * q .quotes) left)
+  pub asked-by : {q : Request} → x ≡ Read.Request q → 5000 ≤ length before
+      → (readText b ≡ asked q (take (5 * q .quotes) left)) × Admissible q (take (5 * q .quotes) left)
   asked-by {q} e h =
       let t = answer-request b before left q h (subst (λ (y : Read). ReadBy (readText b) before y left) e r) in
       (ap readText (sym (t .0)) ∙ text-read q (take (5 * q .quotes) left) (t .1), t .1)
@@ -27,7 +28,8 @@ module _ (b before left : List ℕ) (x : Read) (r : ReadBy (readText b) before x
   bad-by e = reading-bad (readText b) (sym e ∙ r .answer)
 
 -- the lines of the reading are those of the text
-pub text-by : {most k : ℕ} {out left : List ℕ} (b : List ℕ) (g : Reading) → readText b ≡ g → PutIn most out 0 (printed g) k left → PutIn most out 0 (eveningText b) k left
+pub text-by : {most k : ℕ} {out left : List ℕ} (b : List ℕ) (g : Reading) → readText b ≡ g → PutIn most out 0 (printed g) k left
+    → PutIn most out 0 (eveningText b) k left
 unfolding eveningText
 text-by {most} {k} {out} {left} b g e p = subst (λ (g : Reading). PutIn most out 0 (printed g) k left) (sym e) p
 
@@ -37,6 +39,7 @@ pub text-short : (out b : List ℕ) → length out < mostBytes → PutIn (length
 unfolding textFor
 text-short out b h = rw (lt-ltb _ _ h) (record { put = record { next-is = refl; stored = refl }; within = omega arith })
 
-pub text-long : {k : ℕ} {out left : List ℕ} (b : List ℕ) → mostBytes ≤ length out → PutIn mostBytes out 0 (eveningText b) k left → PutIn (length out) out 0 (textFor (length out) b) k left
+pub text-long : {k : ℕ} {out left : List ℕ} (b : List ℕ) → mostBytes ≤ length out → PutIn mostBytes out 0 (eveningText b) k left
+    → PutIn (length out) out 0 (textFor (length out) b) k left
 unfolding textFor
 text-long b h p = rw (le-ltb _ _ h) (loosely h p)

@@ -10,8 +10,9 @@ use text::Request;
 ghost use mathlib.Core.Path.{_≡_};
 ghost use Prim.Native.Nat.{_*_, _≤_};
 ghost use lib.ListN.{length};
+ghost use Rattle.basics.specs.Loan.{given, final};
 ghost use Rattle.config.specs.Configuration.{states};
-ghost use Rattle.calibrator.specs.Record.{memory};
+ghost use Rattle.calibrator.specs.Record.{remains};
 ghost use Rattle.evening.specs.Evening.{endEvening};
 ghost use Rattle.text.specs.Reading.{asked};
 ghost use Rattle.lines.specs.Lines.{counterLines, PutIn};
@@ -23,7 +24,8 @@ pub const MOST_BYTES: usize = 4350;
 // The lines of an evening's answer, its counters and its model table.
 fn put_outcome(out: &mut [u8], answer: Evening, k: Counters, model: &[u64], n: usize) -> usize
     requires { ⌜ (n ≤ 27) × (mostBytes ≤ length (now out)) ⌝ }
-    ensures { λ r. ⌜ PutIn mostBytes (now (out .entry)) 0 (outcomeLines n answer (counterLines (k .pairs) (k .«skipped_spread_pairs») (k .«skipped_gap_pairs») (k .«largest_move_half_ticks»)) (now (model .entry))) r (now (out .exit)) ⌝ }
+    ensures { λ r. ⌜ PutIn mostBytes (given out) 0 (outcomeLines n answer (counterLines (k .pairs) (k .«skipped_spread_pairs») (k .«skipped_gap_pairs») (k .«largest_move_half_ticks»))
+        (given model)) r (final out) ⌝ }
 {
     match answer {
         Evening::Refused(r) => lines::put_named(out, 0, b"refused ", refusals::number_of(r)),
@@ -70,7 +72,7 @@ fn run_evening(
     model: &mut [u64],
 ) -> EveningDone
     requires { ⌜ Zeros (states (configOf r)) (now stay) (now moved) (now totals) (now scratch) (now model) ⌝ }
-    ensures { λ d. ⌜ endEvening (d .answer) (memory (d .next) (now (stay .exit)) (now (moved .exit)) (now (totals .exit))) (now (model .exit)) (now (scratch .exit)) ≡ eveningOf r (now (quotes .entry)) ⌝ }
+    ensures { λ d. ⌜ endEvening (d .answer) (remains (d .next) stay moved totals) (final model) (final scratch) ≡ eveningOf r (given quotes) ⌝ }
 {
     let config = config_of(r);
     let rec = new_record();
@@ -101,7 +103,7 @@ fn put_evening(
     model: &mut [u64],
 ) -> usize
     requires { ⌜ (n ≡ states (configOf r)) × (n ≤ 27) × (mostBytes ≤ length (now out)) × Zeros n (now stay) (now moved) (now totals) (now scratch) (now model) ⌝ }
-    ensures { λ k. ⌜ PutIn mostBytes (now (out .entry)) 0 (printed (asked r (now (quotes .entry)))) k (now (out .exit)) ⌝ }
+    ensures { λ k. ⌜ PutIn mostBytes (given out) 0 (printed (asked r (given quotes))) k (final out) ⌝ }
 {
     let done = run_evening(r, quotes, stay, moved, totals, scratch, model);
     let answer = done.answer;
@@ -128,7 +130,7 @@ fn product(a: usize, b: usize) -> usize
 // The lines of the evening of a request.
 fn put_request(out: &mut [u8], r: Request, quotes: &[u64]) -> usize
     requires { ⌜ (r .buckets * r .«spread_states» ≤ 27) × (mostBytes ≤ length (now out)) ⌝ }
-    ensures { λ k. ⌜ PutIn mostBytes (now (out .entry)) 0 (printed (asked r (now (quotes .entry)))) k (now (out .exit)) ⌝ }
+    ensures { λ k. ⌜ PutIn mostBytes (given out) 0 (printed (asked r (given quotes))) k (final out) ⌝ }
 {
     let mut stay = [0u64; 729];
     let mut moved = [0u64; 729];
@@ -154,7 +156,7 @@ fn put_request(out: &mut [u8], r: Request, quotes: &[u64]) -> usize
 // The lines of a text, with room for its quotes.
 fn put_text(input: &[u8], out: &mut [u8], recording: &mut [u64]) -> usize
     requires { ⌜ (mostBytes ≤ length (now out)) × (5000 ≤ length (now recording)) ⌝ }
-    ensures { λ k. ⌜ PutIn mostBytes (now (out .entry)) 0 (eveningText (now (input .entry))) k (now (out .exit)) ⌝ }
+    ensures { λ k. ⌜ PutIn mostBytes (given out) 0 (eveningText (given input)) k (final out) ⌝ }
 {
     let found = text::read_text(input, recording);
     match found {
@@ -168,7 +170,7 @@ fn put_text(input: &[u8], out: &mut [u8], recording: &mut [u64]) -> usize
 
 // What the evening program prints for an input, from the front of `out` on, and how many bytes that is. An `out` of fewer than MOST_BYTES bytes stays as it is, and the answer is 0.
 pub fn evening_text(input: &[u8], out: &mut [u8]) -> usize
-    ensures { λ r. ⌜ PutIn (length (now (out .entry))) (now (out .entry)) 0 (textFor (length (now (out .entry))) (now (input .entry))) r (now (out .exit)) ⌝ }
+    ensures { λ r. ⌜ PutIn (length (given out)) (given out) 0 (textFor (length (given out)) (given input)) r (final out) ⌝ }
 {
     if out.len() < MOST_BYTES {
         return 0;

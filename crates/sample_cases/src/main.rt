@@ -1,4 +1,5 @@
-// Runs the cases on standard input and prints the answer to each. The input and the expected output are tests/comparison/sample_words.txt and sample.expected, whose form tests/comparison/make_sample.sh describes. Where a function has a `requires`, each caller proves it.
+// Runs the cases on standard input and prints the answer to each. The input and the expected output are tests/comparison/sample_words.txt and sample.expected,
+// whose form tests/comparison/make_sample.sh describes. Where a function has a `requires`, each caller proves it.
 use calibrator::Record;
 use cases::reading::config_of;
 use cases::reading::count_at;
@@ -17,6 +18,7 @@ use recording::Window;
 use refusals::Check;
 ghost use Prim.Native.Nat.{_<_, _≤_};
 ghost use lib.ListN.{length};
+ghost use Rattle.basics.specs.Loan.{given};
 
 mod models;
 
@@ -295,7 +297,7 @@ fn run_case(words: &[u64]) {
 
 // Runs the case whose line begins at `at`; there is room for the longest. Answers where the next line begins.
 fn run(text: &[u8], at: usize) -> usize
-    ensures { λ r. ⌜ (at < length (now (text .entry)) → at < r) ⌝ }
+    ensures { λ r. ⌜ (at < length (given text) → at < r) ⌝ }
 {
     let mut words = [0; 2200];
     let next = cases::reading::read_line(text, at, &mut words);

@@ -27,7 +27,8 @@ module _ (n v r : ℕ) (before : v + n ≤ nextAt n) (l m : List Float) (p : Pro
       ap (at m) x ∙ p .elsewhere (q * width n + (n + 2 + k)) (inl (omega (arith, row-in q n (width n) h))))
       (λ k g. p .elsewhere (v + k) (inl (omega arith))))
 
-  pub product-more : (x : Float) → r < n → nextAt n + n ≤ length m → x ≡ dot rounded n (from (r * width n + (n + 2)) m) (from v m) → ProductTo n v (r + 1) l (set m (nextAt n + r) x)
+  pub product-more : (x : Float) → r < n → nextAt n + n ≤ length m → x ≡ dot rounded n (from (r * width n + (n + 2)) m) (from v m)
+      → ProductTo n v (r + 1) l (set m (nextAt n + r) x)
   product-more x h room e = filled-more p x (omega arith) (e ∙ row-dot r _ h refl)
 
   pub product-four : (f : Four) → r + 4 ≤ n → nextAt n + n ≤ length m → FourDots (r * width n + (n + 2)) (width n) v n m f

@@ -163,11 +163,13 @@ module _ (n rounds left : ℕ) (l m m′ : List Float) (x : Float) (more : 0 < l
   unfolding summed next total B
   run-infinite h = ends (notConverged total next) NotConverged (rw (one-more, ← size, h)) refl refl refl
 
-  pub run-tiny : isInfinite x ≡ false → lt x tiny ≡ true → Summed n rounds (summed rounded n (solvedB n l) rounds (from (sumAt n) l) (from (termAt n) l)) l Converged m′
+  pub run-tiny : isInfinite x ≡ false → lt x tiny ≡ true
+      → Summed n rounds (summed rounded n (solvedB n l) rounds (from (sumAt n) l) (from (termAt n) l)) l Converged m′
   unfolding summed next total B
   run-tiny h g = ends (converged total next) Converged (rw (one-more, ← size, h, g)) refl refl refl
 
-  goes : isInfinite x ≡ false → lt x tiny ≡ false → summed rounded n (solvedB n l) left (r .total) (r .last) ≡ summed rounded n (solvedB n l) (left - 1) total next
+  goes : isInfinite x ≡ false → lt x tiny ≡ false
+      → summed rounded n (solvedB n l) left (r .total) (r .last) ≡ summed rounded n (solvedB n l) (left - 1) total next
   unfolding summed next total B
   goes h g =
       let e : suc (left - 1) - 1 ≡ left - 1 = omega arith in
@@ -186,7 +188,8 @@ module _ (n rounds left : ℕ) (l m m′ : List Float) (x : Float) (more : 0 < l
         elsewhere = elsewhere′;
       }
 
-pub run-out : (n rounds : ℕ) (l m : List Float) → Running n rounds 0 l m → Summed n rounds (summed rounded n (solvedB n l) rounds (from (sumAt n) l) (from (termAt n) l)) l NotConverged m
+pub run-out : (n rounds : ℕ) (l m : List Float) → Running n rounds 0 l m
+    → Summed n rounds (summed rounded n (solvedB n l) rounds (from (sumAt n) l) (from (termAt n) l)) l NotConverged m
 unfolding summed
 run-out n rounds l m r = rw (r .rest) (record { answers = refl; sums = r .sums; terms = r .terms; nexts = r .nexts; elsewhere = r .elsewhere })
 
@@ -194,7 +197,8 @@ run-out n rounds l m r = rw (r .rest) (record { answers = refl; sums = r .sums; 
 
 -- what a run leaves, told by a series that agrees
 module _ {n rounds : ℕ} {l m : List Float} {x : Sum} where
-  like : (a b : Series Float) → sumAnswer a ≡ sumAnswer b → SameVector n (sumOf a) (sumOf b) → SameVector n (termOf a) (termOf b) → Summed n rounds a l x m → Summed n rounds b l x m
+  like : (a b : Series Float) → sumAnswer a ≡ sumAnswer b → SameVector n (sumOf a) (sumOf b) → SameVector n (termOf a) (termOf b) → Summed n rounds a l x m
+      → Summed n rounds b l x m
   like a b h s t e =
       record {
         answers = e .answers ∙ h;
@@ -217,7 +221,8 @@ pub summed-of : (n rounds : ℕ) (l m : List Float) (x : Sum) (B : ℕ → ℕ �
 summed-of n rounds l m x B G1 h g = summed-same _ _ (series-same rounded n (solvedB n l) B h rounds _ _ _ _ g g)
 
 -- G1 copied to sum and to term, and the run from there
-pub sum-started : (n rounds : ℕ) (l m₁ m₂ m₃ : List Float) (x : Sum) → Filled (sumAt n) n (λ k. rowsOf (width n) l k n) l m₁ → Filled (termAt n) n (λ k. rowsOf (width n) m₁ k n) m₁ m₂
+pub sum-started : (n rounds : ℕ) (l m₁ m₂ m₃ : List Float) (x : Sum) → Filled (sumAt n) n (λ k. rowsOf (width n) l k n) l m₁
+    → Filled (termAt n) n (λ k. rowsOf (width n) m₁ k n) m₁ m₂
     → Summed n rounds (summed rounded n (solvedB n m₂) rounds (from (sumAt n) m₂) (from (termAt n) m₂)) m₂ x m₃
     → Summed n rounds (sumSeries rounded n (solvedB n l) (solvedG1 n l) rounds) l x m₃
 sum-started n rounds l m₁ m₂ m₃ x s t e =
@@ -225,7 +230,10 @@ sum-started n rounds l m₁ m₂ m₃ x s t e =
       answers = d .answers;
       sums = d .sums;
       terms = d .terms;
-      nexts = λ k h. d .nexts k h ∙ ap (λ y. cond (eqb rounds 0) y (termOf (sumSeries rounded n (solvedB n l) (solvedG1 n l) rounds) k)) (start (nextAt n + k) (inr (omega arith)) (inr (omega arith)));
+      nexts =
+          λ k h. d .nexts k h
+          ∙ ap (λ y. cond (eqb rounds 0) y (termOf (sumSeries rounded n (solvedB n l) (solvedG1 n l) rounds) k))
+          (start (nextAt n + k) (inr (omega arith)) (inr (omega arith)));
       elsewhere = λ i h g. d .elsewhere i h g ∙ start i h (⊎-elim (λ q. inl q) (λ q. inr (omega arith)) g);
     }
   where
@@ -249,7 +257,8 @@ sum-started n rounds l m₁ m₂ m₃ x s t e =
 -- ---- rounds of the share
 
 -- one round: the product, and F plus it
-pub share-round : (n : ℕ) (l m₁ m₂ : List Float) → ProductTo n (shareAt n) n l m₁ → Filled (shareAt n) n (λ k. add binary64 (rowsOf (width n) m₁ k (n + 1)) (from (nextAt n) m₁ k)) m₁ m₂
+pub share-round : (n : ℕ) (l m₁ m₂ : List Float) → ProductTo n (shareAt n) n l m₁
+    → Filled (shareAt n) n (λ k. add binary64 (rowsOf (width n) m₁ k (n + 1)) (from (nextAt n) m₁ k)) m₁ m₂
     → Shared n 1 (plus rounded (solvedF n l) (times rounded n (solvedB n l) (from (shareAt n) l))) (times rounded n (solvedB n l) (from (shareAt n) l)) l m₂
 share-round n l m₁ m₂ p a =
     record {
@@ -261,7 +270,8 @@ share-round n l m₁ m₂ p a =
     F : (k : ℕ) → k < n → rowsOf (width n) m₁ k (n + 1) ≡ solvedF n l k
     F k h = p .elsewhere (k * width n + (n + 1)) (inl (omega (arith, row-in k n (width n) h)))
 
-pub shares-none : (n : ℕ) (l : List Float) → SameVector n (from (shareAt n) l) (solvedF n l) → Shared n 0 (shareAfter rounded n (solvedB n l) (solvedF n l) 0) (lastProduct n (solvedB n l) (solvedF n l) 0) l l
+pub shares-none : (n : ℕ) (l : List Float) → SameVector n (from (shareAt n) l) (solvedF n l)
+    → Shared n 0 (shareAfter rounded n (solvedB n l) (solvedF n l) 0) (lastProduct n (solvedB n l) (solvedF n l) 0) l l
 unfolding shareAfter
 shares-none n l h = record { shares = h; nexts = λ k g. refl; elsewhere = λ i h g. refl }
 
@@ -286,7 +296,8 @@ shares-more n done l m m′ s r =
     F : (k : ℕ) → k < n → solvedF n m k ≡ solvedF n l k
     F k h = rows (k * width n + (n + 1)) (omega (arith, row-in k n (width n) h))
 
-    product : SameVector n (times rounded n (solvedB n m) (from (shareAt n) m)) (times rounded n (solvedB n l) (shareAfter rounded n (solvedB n l) (solvedF n l) done))
+    product : SameVector n (times rounded n (solvedB n m) (from (shareAt n) m))
+        (times rounded n (solvedB n l) (shareAfter rounded n (solvedB n l) (solvedF n l) done))
     product i h = dot-same rounded n _ _ _ _ (λ j g. same-B n l m rows i j h g) (s .shares)
 
 -- F copied to share
@@ -294,7 +305,8 @@ pub share-copied : (n : ℕ) (l m : List Float) → Filled (shareAt n) n (λ k. 
 share-copied n l m c k h = c .cells k h ∙ sym (c .elsewhere (k * width n + (n + 1)) (inl (omega (arith, row-in k n (width n) h))))
 
 -- what the rounds leave, told by vectors that agree
-shared-same : {n rounds : ℕ} {u p u′ p′ : ℕ → Float} {l m : List Float} → SameVector n u u′ → SameVector n p p′ → Shared n rounds u p l m → Shared n rounds u′ p′ l m
+shared-same : {n rounds : ℕ} {u p u′ p′ : ℕ → Float} {l m : List Float} → SameVector n u u′ → SameVector n p p′ → Shared n rounds u p l m
+    → Shared n rounds u′ p′ l m
 shared-same {n} {rounds} {u} {p} {u′} {p′} {l} {m} a b s =
     record {
       shares = λ k h. s .shares k h ∙ a k h;
@@ -302,7 +314,8 @@ shared-same {n} {rounds} {u} {p} {u′} {p′} {l} {m} a b s =
       elsewhere = s .elsewhere;
     }
 
-module _ (n rounds : ℕ) (l : List Float) (B : ℕ → ℕ → Float) (F : ℕ → Float) (sameB : (i j : ℕ) → i < n → j < n → solvedB n l i j ≡ B i j) (sameF : SameVector n (solvedF n l) F) where
+module _ (n rounds : ℕ) (l : List Float) (B : ℕ → ℕ → Float) (F : ℕ → Float) (sameB : (i j : ℕ) → i < n → j < n → solvedB n l i j ≡ B i j)
+    (sameF : SameVector n (solvedF n l) F) where
   share-agrees : (k : ℕ) → SameVector n (shareAfter rounded n (solvedB n l) (solvedF n l) k) (shareAfter rounded n B F k)
   share-agrees = share-same rounded n (solvedB n l) B sameB (solvedF n l) F sameF
 

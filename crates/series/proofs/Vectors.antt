@@ -1,4 +1,5 @@
--- Only the first n numbers of a vector count: products, the largest, the series and the share of vectors that agree there agree there. For a caller whose definition has vectors and whose list holds them.
+-- Only the first n numbers of a vector count: products, the largest, the series and the share of vectors that agree there agree there. For a caller whose
+-- definition has vectors and whose list holds them.
 use Prim.Native.Nat.{ℕ, zero, suc, _<_}
 use mathlib.Core.Path.{_≡_, refl, sym, ap, _∙_}
 use mathlib.Core.Bool.{Bool, true, false, cond}
@@ -50,11 +51,14 @@ module _ (F : Arith) where
     plus-same : (u v u′ v′ : Vector F) → SameVector n u u′ → SameVector n v v′ → SameVector n (plus F u v) (plus F u′ v′)
     plus-same u v u′ v′ a b k h = ap (λ s. s ⊕ v k) (a k h) ∙ ap (λ s. u′ k ⊕ s) (b k h)
 
-    pub series-same : (left : ℕ) (s t s′ t′ : Vector F) → SameVector n s s′ → SameVector n t t′ → SameSeries n (summed F n B left s t) (summed F n B′ left s′ t′)
+    pub series-same : (left : ℕ) (s t s′ t′ : Vector F) → SameVector n s s′ → SameVector n t t′
+        → SameSeries n (summed F n B left s t) (summed F n B′ left s′ t′)
     unfolding summed
     series-same zero s t s′ t′ a b = (a, b)
     series-same (suc left) s t s′ t′ a b =
-        rw (largest-same n (times F n B t) (times F n B′ t′) next) (go (isInfinite most) (isTiny most) (series-same left (plus F s (times F n B t)) (times F n B t) (plus F s′ (times F n B′ t′)) (times F n B′ t′) total next))
+        rw (largest-same n (times F n B t) (times F n B′ t′) next)
+        (go (isInfinite most) (isTiny most)
+        (series-same left (plus F s (times F n B t)) (times F n B t) (plus F s′ (times F n B′ t′)) (times F n B′ t′) total next))
       where
         next : SameVector n (times F n B t) (times F n B′ t′)
         next = times-same t t′ b
@@ -68,8 +72,10 @@ module _ (F : Arith) where
         go : (p q : Bool)
             → SameSeries n (summed F n B left (plus F s (times F n B t)) (times F n B t)) (summed F n B′ left (plus F s′ (times F n B′ t′)) (times F n B′ t′))
             → SameSeries n
-            (cond p (notConverged (plus F s (times F n B t)) (times F n B t)) (cond q (converged (plus F s (times F n B t)) (times F n B t)) (summed F n B left (plus F s (times F n B t)) (times F n B t))))
-            (cond p (notConverged (plus F s′ (times F n B′ t′)) (times F n B′ t′)) (cond q (converged (plus F s′ (times F n B′ t′)) (times F n B′ t′)) (summed F n B′ left (plus F s′ (times F n B′ t′)) (times F n B′ t′))))
+            (cond p (notConverged (plus F s (times F n B t)) (times F n B t))
+            (cond q (converged (plus F s (times F n B t)) (times F n B t)) (summed F n B left (plus F s (times F n B t)) (times F n B t))))
+            (cond p (notConverged (plus F s′ (times F n B′ t′)) (times F n B′ t′))
+            (cond q (converged (plus F s′ (times F n B′ t′)) (times F n B′ t′)) (summed F n B′ left (plus F s′ (times F n B′ t′)) (times F n B′ t′))))
         go true q rest = (total, next)
         go false true rest = (total, next)
         go false false rest = rest

@@ -6,6 +6,7 @@ ghost use mathlib.Core.List.{List};
 ghost use Prim.Native.Nat.{ℕ, _+_, _*_, _<_, _≤_};
 ghost use lib.ListN.{length};
 ghost use lib.Ieee.{Float, binary64, add};
+ghost use Rattle.basics.specs.Loan.{given, final};
 ghost use Rattle.floats.specs.Floats as Floats;
 ghost use Rattle.linear.specs.Arithmetic.{rounded};
 ghost use Rattle.linear.specs.Flat.{from, rowsOf};
@@ -17,7 +18,7 @@ ghost use Rattle.series.specs.Loops.{FourDots, ProductTo, Column, TermAd
 // The dot product of n floats from i on and from j on, left to right.
 fn dot_product(s: &[f64], i: usize, j: usize, n: usize) -> f64
     requires { ⌜ (i + n ≤ length (now s)) × (j + n ≤ length (now s)) ⌝ }
-    ensures { λ r. ⌜ r ≡ dot rounded n (from i (now (s .entry))) (from j (now (s .entry))) ⌝ }
+    ensures { λ r. ⌜ r ≡ dot rounded n (from i (given s)) (from j (given s)) ⌝ }
 {
     let mut sum = -0.0;
     let mut k = 0;
@@ -39,7 +40,7 @@ pub struct Four {
 // The dot products of four rows, w apart from i on, with n floats from j on: side by side, each left to right.
 fn dot_four(s: &[f64], i: usize, w: usize, j: usize, n: usize) -> Four
     requires { ⌜ (i + 3 * w + n ≤ length (now s)) × (j + n ≤ length (now s)) ⌝ }
-    ensures { λ r. ⌜ FourDots i w j n (now (s .entry)) r ⌝ }
+    ensures { λ r. ⌜ FourDots i w j n (given s) r ⌝ }
 {
     let i1 = i + w;
     let i2 = i + 2 * w;
@@ -63,7 +64,7 @@ fn dot_four(s: &[f64], i: usize, w: usize, j: usize, n: usize) -> Four
 // B times the vector of n floats from v on, into next: four rows at a time. Answers the number of rows done.
 fn multiply_fours(s: &mut [f64], n: usize, v: usize) -> usize
     requires { ⌜ Scratch n (now s) × (v + n ≤ nextAt n) ⌝ }
-    ensures { λ r. ⌜ (r ≤ n) × ProductTo n v r (now (s .entry)) (now (s .exit)) ⌝ }
+    ensures { λ r. ⌜ (r ≤ n) × ProductTo n v r (given s) (final s) ⌝ }
 {
     let w = 2 * n + 2;
     let next = n * w + 3 * n;
@@ -82,7 +83,7 @@ fn multiply_fours(s: &mut [f64], n: usize, v: usize) -> usize
 // The rows of B from `done` on.
 fn multiply_rest(s: &mut [f64], n: usize, v: usize, done: usize)
     requires { ⌜ Scratch n (now s) × (v + n ≤ nextAt n) × (done ≤ n) ⌝ }
-    ensures { λ _. ⌜ ((l : List Float) → ProductTo n v done l (now (s .entry)) → ProductTo n v n l (now (s .exit))) ⌝ }
+    ensures { λ _. ⌜ ((l : List Float) → ProductTo n v done l (given s) → ProductTo n v n l (final s)) ⌝ }
 {
     let w = 2 * n + 2;
     let next = n * w + 3 * n;
@@ -96,7 +97,7 @@ fn multiply_rest(s: &mut [f64], n: usize, v: usize, done: usize)
 // B times the vector of n floats from v on, into next.
 fn multiply(s: &mut [f64], n: usize, v: usize)
     requires { ⌜ Scratch n (now s) × (v + n ≤ nextAt n) ⌝ }
-    ensures { λ _. ⌜ ProductTo n v n (now (s .entry)) (now (s .exit)) ⌝ }
+    ensures { λ _. ⌜ ProductTo n v n (given s) (final s) ⌝ }
 {
     let done = multiply_fours(s, n, v);
     multiply_rest(s, n, v, done);
@@ -105,7 +106,7 @@ fn multiply(s: &mut [f64], n: usize, v: usize)
 // n places from `to` on become column c of n rows of w; with w = 1, the n places from c on.
 fn copy_column(s: &mut [f64], n: usize, w: usize, c: usize, to: usize)
     requires { ⌜ Column n w c to (now s) ⌝ }
-    ensures { λ _. ⌜ Filled to n (λ k. rowsOf w (now (s .entry)) k c) (now (s .entry)) (now (s .exit)) ⌝ }
+    ensures { λ _. ⌜ Filled to n (λ k. rowsOf w (given s) k c) (given s) (final s) ⌝ }
 {
     let mut k = 0;
     while k < n {
@@ -117,7 +118,7 @@ fn copy_column(s: &mut [f64], n: usize, w: usize, c: usize, to: usize)
 // n places from `to` on become column c of n rows of w plus the n places from v on.
 fn add_column(s: &mut [f64], n: usize, w: usize, c: usize, v: usize, to: usize)
     requires { ⌜ Column n w c to (now s) × (to + n ≤ v) × (v + n ≤ length (now s)) ⌝ }
-    ensures { λ _. ⌜ Filled to n (λ k. add binary64 (rowsOf w (now (s .entry)) k c) (from v (now (s .entry)) k)) (now (s .entry)) (now (s .exit)) ⌝ }
+    ensures { λ _. ⌜ Filled to n (λ k. add binary64 (rowsOf w (given s) k c) (from v (given s) k)) (given s) (final s) ⌝ }
 {
     let mut k = 0;
     while k < n {
@@ -129,7 +130,7 @@ fn add_column(s: &mut [f64], n: usize, w: usize, c: usize, v: usize, to: usize)
 // The largest size of the n places from v on.
 fn largest_of(s: &[f64], n: usize, v: usize) -> f64
     requires { ⌜ v + n ≤ length (now s) ⌝ }
-    ensures { λ r. ⌜ r ≡ largest rounded n (from v (now (s .entry))) ⌝ }
+    ensures { λ r. ⌜ r ≡ largest rounded n (from v (given s)) ⌝ }
 {
     let mut largest = 0.0;
     let mut k = 0;
@@ -143,7 +144,7 @@ fn largest_of(s: &[f64], n: usize, v: usize) -> f64
 // Clamps the n places from v on to 0..1.
 fn clamp_part(s: &mut [f64], n: usize, v: usize)
     requires { ⌜ v + n ≤ length (now s) ⌝ }
-    ensures { λ _. ⌜ Filled v n (λ k. Floats.clamp (from v (now (s .entry)) k)) (now (s .entry)) (now (s .exit)) ⌝ }
+    ensures { λ _. ⌜ Filled v n (λ k. Floats.clamp (from v (given s) k)) (given s) (final s) ⌝ }
 {
     let mut k = 0;
     while k < n {
@@ -155,7 +156,7 @@ fn clamp_part(s: &mut [f64], n: usize, v: usize)
 // The next term, added on. Answers its largest size.
 fn add_term(s: &mut [f64], n: usize) -> f64
     requires { ⌜ Scratch n (now s) ⌝ }
-    ensures { λ r. ⌜ TermAdded n (now (s .entry)) r (now (s .exit)) ⌝ }
+    ensures { λ r. ⌜ TermAdded n (given s) r (final s) ⌝ }
 {
     let sum = n * (2 * n + 2);
     let term = sum + 2 * n;
@@ -169,7 +170,7 @@ fn add_term(s: &mut [f64], n: usize) -> f64
 // Adds terms on to a sum.
 fn add_terms(s: &mut [f64], n: usize, rounds: usize) -> Sum
     requires { ⌜ Scratch n (now s) ⌝ }
-    ensures { λ r. ⌜ Summed n rounds (summed rounded n (solvedB n (now (s .entry))) rounds (from (sumAt n) (now (s .entry))) (from (termAt n) (now (s .entry)))) (now (s .entry)) r (now (s .exit)) ⌝ }
+    ensures { λ r. ⌜ Summed n rounds (summed rounded n (solvedB n (given s)) rounds (from (sumAt n) (given s)) (from (termAt n) (given s))) (given s) r (final s) ⌝ }
 {
     let mut left = rounds;
     while 0 < left {
@@ -188,7 +189,7 @@ fn add_terms(s: &mut [f64], n: usize, rounds: usize) -> Sum
 // The series from G1, with at most so many rounds (document 01: 10,000).
 pub fn sum_series(scratch: &mut [f64], n: usize, rounds: usize) -> Sum
     requires { ⌜ Scratch n (now scratch) ⌝ }
-    ensures { λ r. ⌜ Summed n rounds (sumSeries rounded n (solvedB n (now (scratch .entry))) (solvedG1 n (now (scratch .entry))) rounds) (now (scratch .entry)) r (now (scratch .exit)) ⌝ }
+    ensures { λ r. ⌜ Summed n rounds (sumSeries rounded n (solvedB n (given scratch)) (solvedG1 n (given scratch)) rounds) (given scratch) r (final scratch) ⌝ }
 {
     let w = 2 * n + 2;
     let sum = n * w;
@@ -200,7 +201,7 @@ pub fn sum_series(scratch: &mut [f64], n: usize, rounds: usize) -> Sum
 // One round of the share.
 fn next_share(s: &mut [f64], n: usize)
     requires { ⌜ Scratch n (now s) ⌝ }
-    ensures { λ _. ⌜ Shared n 1 (plus rounded (solvedF n (now (s .entry))) (times rounded n (solvedB n (now (s .entry))) (from (shareAt n) (now (s .entry))))) (times rounded n (solvedB n (now (s .entry))) (from (shareAt n) (now (s .entry)))) (now (s .entry)) (now (s .exit)) ⌝ }
+    ensures { λ _. ⌜ (let p = times rounded n (solvedB n (given s)) (from (shareAt n) (given s)) in Shared n 1 (plus rounded (solvedF n (given s)) p) p (given s) (final s)) ⌝ }
 {
     let w = 2 * n + 2;
     let share = n * w + n;
@@ -212,7 +213,7 @@ fn next_share(s: &mut [f64], n: usize)
 // Rounds of the share, from F.
 fn add_shares(s: &mut [f64], n: usize, rounds: usize)
     requires { ⌜ Scratch n (now s) × ((k : ℕ) → k < n → from (shareAt n) (now s) k ≡ solvedF n (now s) k) ⌝ }
-    ensures { λ _. ⌜ Shared n rounds (shareAfter rounded n (solvedB n (now (s .entry))) (solvedF n (now (s .entry))) rounds) (lastProduct n (solvedB n (now (s .entry))) (solvedF n (now (s .entry))) rounds) (now (s .entry)) (now (s .exit)) ⌝ }
+    ensures { λ _. ⌜ (let B = solvedB n (given s) in let F = solvedF n (given s) in Shared n rounds (shareAfter rounded n B F rounds) (lastProduct n B F rounds) (given s) (final s)) ⌝ }
 {
     let mut done = 0;
     while done < rounds {
@@ -224,7 +225,8 @@ fn add_shares(s: &mut [f64], n: usize, rounds: usize)
 // The probability of reaching a fallback state within so many moves of the mid (document 01: 10).
 pub fn fallback_within_moves(scratch: &mut [f64], n: usize, rounds: usize)
     requires { ⌜ Scratch n (now scratch) ⌝ }
-    ensures { λ _. ⌜ Shared n rounds (fallbackWithinMoves rounded n (solvedB n (now (scratch .entry))) (solvedF n (now (scratch .entry))) rounds) (lastProduct n (solvedB n (now (scratch .entry))) (solvedF n (now (scratch .entry))) rounds) (now (scratch .entry)) (now (scratch .exit)) ⌝ }
+    ensures { λ _. ⌜ (let B = solvedB n (given scratch) in let F = solvedF n (given scratch) in
+        Shared n rounds (fallbackWithinMoves rounded n B F rounds) (lastProduct n B F rounds) (given scratch) (final scratch)) ⌝ }
 {
     let w = 2 * n + 2;
     let share = n * w + n;

@@ -25,7 +25,8 @@ module _ (c : MicroPriceConfig) (t : List ℕ) (q : TopOfBook) (i : ℕ) (e : St
   pub row-unserved : r ≡ false → Refused (ModelRow i) ≡ signalOfRow c t q i
   row-unserved f = ap (λ (b : Bool). answer b (sent q (adjustmentOf (rowAt t i)) (sourceOf (rowAt t i .status)))) (sym f ∙ served)
 
-  pub row-served : r ≡ true → (a : Float) (s : SignalSource) (o : Signalled) → a ≡ adjustmentOf e → s ≡ sourceOf (e .status) → o ≡ sent q a s → o ≡ signalOfRow c t q i
+  pub row-served : r ≡ true → (a : Float) (s : SignalSource) (o : Signalled) → a ≡ adjustmentOf e → s ≡ sourceOf (e .status) → o ≡ sent q a s
+      → o ≡ signalOfRow c t q i
   row-served f a s o ea es eo =
       eo
       ∙ (λ d. sent q ((ea ∙ ap adjustmentOf ee) d) ((es ∙ ap (λ (x : StateEstimate). sourceOf (x .status)) ee) d))

@@ -8,7 +8,7 @@ use lib.Dec.{eqb}
 use lib.Ieee.{binary64, add, eq, le}
 use lib.Ieee.Scale.{finite}
 use borrow.Author.Tests.{not-true, eqb-true}
-use Rattle.basics.proofs.Tests.{both}
+use Rattle.basics.proofs.Tests.{zero-not-one, both}
 use Rattle.floats.specs.Floats.{posZero, abs, minusZero}
 use Rattle.model.specs.Rows.{rowAt}
 use Rattle.model.specs.declared.StateEstimate.{StateEstimate}
@@ -67,7 +67,9 @@ ruled c i e mirror h =
     }
 
 adjustment-finite : (e : StateEstimate) → floatsFinite e ≡ true → finite (e .adjustment) ≡ true
-adjustment-finite e h = both (finite (e .«first_adjustment»)) (finite (e .adjustment)) (both (finite (e .«first_adjustment») && finite (e .adjustment)) (finite (e .«fallback_within_moves»)) h .0) .1
+adjustment-finite e h =
+    both (finite (e .«first_adjustment»)) (finite (e .adjustment))
+    (both (finite (e .«first_adjustment») && finite (e .adjustment)) (finite (e .«fallback_within_moves»)) h .0) .1
 
 adjustment-plus : (e : StateEstimate) → noMinusZero e ≡ true → minusZero (e .adjustment) ≡ false
 adjustment-plus e h =
@@ -103,27 +105,28 @@ fine-mirrors c t i j h =
 -- ---- the table
 
 -- where each row serves, no quote's signal is refused by 13
-pub all-served : (c : MicroPriceConfig) (t : List ℕ) → ((i : ℕ) → i < states c → rowServes c i (rowAt t i) ≡ true) → (q : TopOfBook) (i : ℕ) → signalOf c t q ≡ Refused (ModelRow i) → ⊥
+pub all-served : (c : MicroPriceConfig) (t : List ℕ) → ((i : ℕ) → i < states c → rowServes c i (rowAt t i) ≡ true) → (q : TopOfBook) (i : ℕ)
+    → signalOf c t q ≡ Refused (ModelRow i) → ⊥
 all-served c t serves q i e = go (signalRefusal c t q) refl e
   where
     quote : (a b d : Bool) → firstOf (refuseIf a 2) (firstOf (refuseIf b 3) (refuseIf d 4)) ≡ Check.Refused (ModelRow i) → ⊥
-    quote true b d k = let z : _≡_ {A = ℕ} 0 1 = cc in omega arith
-    quote false true d k = let z : _≡_ {A = ℕ} 0 1 = cc in omega arith
-    quote false false true k = let z : _≡_ {A = ℕ} 0 1 = cc in omega arith
-    quote false false false k = let z : _≡_ {A = ℕ} 0 1 = cc in omega arith
+    quote true b d k = zero-not-one cc
+    quote false true d k = zero-not-one cc
+    quote false false true k = zero-not-one cc
+    quote false false false k = zero-not-one cc
 
-    no-row : (a b : Bool) (k : Check) → (k ≡ Check.Refused (ModelRow i) → ⊥) → firstOf (refuseIf a 1) (firstOf (refuseIf b 7) k) ≡ Check.Refused (ModelRow i) → ⊥
-    no-row true b k n f = let z : _≡_ {A = ℕ} 0 1 = cc in omega arith
-    no-row false true k n f = let z : _≡_ {A = ℕ} 0 1 = cc in omega arith
+    no-row : (a b : Bool) (k : Check) → (k ≡ Check.Refused (ModelRow i) → ⊥) → firstOf (refuseIf a 1) (firstOf (refuseIf b 7) k) ≡ Check.Refused (ModelRow i)
+        → ⊥
+    no-row true b k n f = zero-not-one cc
+    no-row false true k n f = zero-not-one cc
     no-row false false k n f = n f
 
     place : (p : Place) → Valid c → placeOf c q ≡ p → signalAt c t q p ≡ Refused (ModelRow i) → ⊥
     place (State a) v p k =
         let s = serves (a .state) (place-located c q v a p .below) in
         let f : sent q (adjustmentOf (rowAt t (a .state))) (sourceOf (rowAt t (a .state) .status)) ≡ Refused (ModelRow i) = rw s at k in
-        let z : _≡_ {A = ℕ} 0 1 = cc f in
-        omega arith
-    place (NoState r) v p k = let z : _≡_ {A = ℕ} 0 1 = cc in omega arith
+        zero-not-one (cc f)
+    place (NoState r) v p k = zero-not-one cc
 
     go : (k : Check) → signalRefusal c t q ≡ k → sentUnless k (signalAt c t q (placeOf c q)) ≡ Refused (ModelRow i) → ⊥
     go Check.Fine r k = place (placeOf c q) (valid-known c (unrefused c t q r .config)) refl k
@@ -133,7 +136,7 @@ all-served c t serves q i e = go (signalRefusal c t q) refl e
 
 row-fine : (b : Bool) (i : ℕ) → cond b Check.Fine (Check.Refused (ModelRow i)) ≡ Check.Fine → b ≡ true
 row-fine true i e = refl
-row-fine false i e = absurd (let z : _≡_ {A = ℕ} 0 1 = cc in omega arith)
+row-fine false i e = absurd (zero-not-one cc)
 
 module _ (c : MicroPriceConfig) (t : List ℕ) (h : checkModel c t ≡ Check.Fine) where
   rows-fine : (i : ℕ) → i < states c → rowFine c i (rowAt t i) (rowAt t (mirrorOf (c .«imbalance_buckets») i)) ≡ true

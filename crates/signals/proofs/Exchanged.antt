@@ -55,7 +55,8 @@ module _ (c : MicroPriceConfig) (t : List ℕ) (a : At) (v : Valid c) (l : Locat
   size : abs (e .adjustment) ≡ abs (m .adjustment)
   size =
       same-size (e .adjustment) (m .adjustment)
-      (sum-zero (e .adjustment) (m .adjustment) (row-held t (a .state) .final) (row-held t (a .mirror) .final) (ap (λ (x : Float). eq x posZero) (h .sum-zero) ∙ zero-is) .1)
+      (sum-zero (e .adjustment) (m .adjustment) (row-held t (a .state) .final) (row-held t (a .mirror) .final)
+      (ap (λ (x : Float). eq x posZero) (h .sum-zero) ∙ zero-is) .1)
 
   half : halfSpreadOf c (a .state) ≡ halfSpreadOf c (a .mirror)
   half =
@@ -75,7 +76,8 @@ module _ (c : MicroPriceConfig) (t : List ℕ) (a : At) (v : Valid c) (l : Locat
       go true z = rw (← h .status-same, z) (h .sum-zero)
       go false z = rw (← h .status-same, z) zeros-sum
 
-answers : (b d : Bool) (x y : MicroPriceSignal) (i j : ℕ) → b ≡ d → SignalsMirror x y → AnswersMirror (cond b (Sent x) (Refused (ModelRow i))) (cond d (Sent y) (Refused (ModelRow j)))
+answers : (b d : Bool) (x y : MicroPriceSignal) (i j : ℕ) → b ≡ d → SignalsMirror x y
+    → AnswersMirror (cond b (Sent x) (Refused (ModelRow i))) (cond d (Sent y) (Refused (ModelRow j)))
 answers true true x y i j e s = s
 answers true false x y i j e s = absurd (true≢false e)
 answers false true x y i j e s = absurd (false≢true e)
@@ -94,7 +96,8 @@ signal-exchanged c t q h = rw (check-exchanged c q) (go (signalRefusal c t q) re
         (record { time-same = refl; mid-same = refl; source-same = ap sourceOf (m .status-same); sum-zero = adjustments c t a v l m })
     at (NoState r) v p s = record { time-same = refl; mid-same = refl; source-same = refl; sum-zero = zeros-sum }
 
-    go : (k : Check) → signalRefusal c t q ≡ k → AnswersMirror (sentUnless k (signalAt c t q (placeOf c q))) (sentUnless k (signalAt c t (exchanged q) (placeOf c (exchanged q))))
+    go : (k : Check) → signalRefusal c t q ≡ k
+        → AnswersMirror (sentUnless k (signalAt c t q (placeOf c q))) (sentUnless k (signalAt c t (exchanged q) (placeOf c (exchanged q))))
     go Check.Fine r =
         let u = unrefused c t q r in
         let v = valid-known c (u .config) in

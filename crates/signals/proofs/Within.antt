@@ -9,7 +9,7 @@ use lib.Dec.{T, leb}
 use lib.Ieee.{Float, nan, inf, fin, up, down, le, ofBits}
 use lib.Ieee.Fits.{down-pos}
 use lib.Ieee.Scale.{finite}
-use Rattle.basics.proofs.Tests.{both}
+use Rattle.basics.proofs.Tests.{zero-not-one, both}
 use Rattle.floats.specs.Floats.{posZero, abs, half}
 use Rattle.floats.proofs.Whole.{half-exact}
 use Rattle.floats.proofs.Within.{values-le}
@@ -73,7 +73,8 @@ module _ (c : MicroPriceConfig) (q : TopOfBook) (v : Valid c) (f : Accepted c q)
     where
       go : (z : Bool) → hasStatus Calibrated e ≡ z → Within q (cond z (e .adjustment) posZero)
       go true z =
-          let k = both (leb (e .status) 3) (not (hasStatus Calibrated e) || (finite (e .adjustment) && le (abs (e .adjustment)) (halfSpreadOf c (a .state)))) h .1 in
+          let k = both (leb (e .status) 3) (not (hasStatus Calibrated e) || (finite (e .adjustment) && le (abs (e .adjustment)) (halfSpreadOf c (a .state))))
+          h .1 in
           let n = both (finite (e .adjustment)) (le (abs (e .adjustment)) (halfSpreadOf c (a .state))) (rw z at k) in
           half-within q width (e .adjustment) width-less width-is (subst T (sym (n .0)) tt) (subst T (sym (n .1)) tt)
       go false z = mid-within q
@@ -85,9 +86,11 @@ sent-is q m s e w = let k : m ≡ s = cc in subst (λ (x : MicroPriceSignal). Wi
 pub signal-within : (c : MicroPriceConfig) (t : List ℕ) (q : TopOfBook) (s : MicroPriceSignal) → signalOf c t q ≡ Sent s → Within q (s .adjustment)
 signal-within c t q s e = go (signalRefusal c t q) refl e
   where
-    row : (a : At) → Valid c → Accepted c q → placeOf c q ≡ State a → (b : Bool) → rowServes c (a .state) (rowAt t (a .state)) ≡ b → cond b (sent q (adjustmentOf (rowAt t (a .state))) (sourceOf (rowAt t (a .state) .status))) (Refused (ModelRow (a .state))) ≡ Sent s → Within q (s .adjustment)
+    row : (a : At) → Valid c → Accepted c q → placeOf c q ≡ State a → (b : Bool) → rowServes c (a .state) (rowAt t (a .state)) ≡ b
+        → cond b (sent q (adjustmentOf (rowAt t (a .state))) (sourceOf (rowAt t (a .state) .status))) (Refused (ModelRow (a .state))) ≡ Sent s
+        → Within q (s .adjustment)
     row a v f p true r k = sent-is q _ s k (row-within c q v f a p (rowAt t (a .state)) r)
-    row a v f p false r k = absurd (let z : _≡_ {A = ℕ} 0 1 = cc in omega arith)
+    row a v f p false r k = absurd (zero-not-one cc)
 
     place : (p : Place) → Valid c → Accepted c q → placeOf c q ≡ p → signalAt c t q p ≡ Sent s → Within q (s .adjustment)
     place (State a) v f p k = row a v f p (rowServes c (a .state) (rowAt t (a .state))) refl k
@@ -95,4 +98,4 @@ signal-within c t q s e = go (signalRefusal c t q) refl e
 
     go : (k : Check) → signalRefusal c t q ≡ k → sentUnless k (signalAt c t q (placeOf c q)) ≡ Sent s → Within q (s .adjustment)
     go Check.Fine r k = let u = unrefused c t q r in place (placeOf c q) (valid-known c (u .config)) (fine-known c q (u .quote)) refl k
-    go (Check.Refused x) r k = absurd (let z : _≡_ {A = ℕ} 0 1 = cc in omega arith)
+    go (Check.Refused x) r k = absurd (zero-not-one cc)

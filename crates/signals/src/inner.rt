@@ -11,6 +11,7 @@ use refusals::Refusal;
 ghost use mathlib.Core.Path.{_≡_};
 ghost use Prim.Native.Nat.{_*_, _<_};
 ghost use lib.ListN.{length};
+ghost use Rattle.basics.specs.Loan.{given};
 ghost use Rattle.config.specs.Configuration.{states};
 ghost use Rattle.config.specs.Known.{Valid};
 ghost use Rattle.quotes.specs.Known.{Accepted};
@@ -90,7 +91,7 @@ fn signal_of(
 // The signal of an accepted quote in state i.
 fn signal_of_row(config: MicroPriceConfig, table: &[u64], quote: TopOfBook, i: usize) -> Signalled
     requires { ⌜ Valid config × (length (now table) ≡ 7 * states config) × Accepted config quote × (i < states config) ⌝ }
-    ensures { λ r. ⌜ r ≡ signalOfRow config (now (table .entry)) quote i ⌝ }
+    ensures { λ r. ⌜ r ≡ signalOfRow config (given table) quote i ⌝ }
 {
     let e = model::inner::read_row(table, i);
     if !row_serves(config, i, e) {
@@ -102,7 +103,7 @@ fn signal_of_row(config: MicroPriceConfig, table: &[u64], quote: TopOfBook, i: u
 // The signal of an accepted quote.
 pub fn signal_at(config: MicroPriceConfig, table: &[u64], quote: TopOfBook) -> Signalled
     requires { ⌜ Valid config × (length (now table) ≡ 7 * states config) × Accepted config quote ⌝ }
-    ensures { λ r. ⌜ r ≡ signalAt config (now (table .entry)) quote (placeOf config quote) ⌝ }
+    ensures { λ r. ⌜ r ≡ signalAt config (given table) quote (placeOf config quote) ⌝ }
 {
     let place = quotes::inner::place_of(config, quote);
     let Place::State(at) = place else {

@@ -7,6 +7,7 @@ use quotes::TopOfBook;
 use refusals::Check;
 use refusals::Refusal;
 ghost use mathlib.Core.Path.{_≡_};
+ghost use Rattle.basics.specs.Loan.{given};
 ghost use Rattle.signals.specs.Signal.{signalOf};
 
 // Why a signal is what it is: `sourceNumber` of specs/Signal.antt.
@@ -39,7 +40,7 @@ pub enum Signalled {
 
 // The signal of a quote. Of the table only the row of the quote's state is read.
 pub fn signal(config: MicroPriceConfig, table: &[u64], quote: TopOfBook) -> Signalled
-    ensures { λ r. ⌜ r ≡ signalOf config (now (table .entry)) quote ⌝ }
+    ensures { λ r. ⌜ r ≡ signalOf config (given table) quote ⌝ }
 {
     if !config::inner::is_valid(config) {
         return Signalled::Refused(Refusal::Configuration);

@@ -3,6 +3,7 @@ ghost use mathlib.Core.Path.{_≡_};
 ghost use Prim.Native.Nat.{_≤_, _<_, _^_};
 ghost use lib.IntN.{pos, natAbs, _+ℤ_};
 ghost use lib.ListN.{length, getD};
+ghost use Rattle.basics.specs.Loan.{given, final};
 ghost use Rattle.signed.specs.Totals.{change, within, addAt};
 
 // The size of the change from `from` to `to`.
@@ -20,7 +21,7 @@ fn is_within(total: i64) -> bool
 
 pub fn is_within_at(totals: &[i64], i: usize) -> bool
     requires { ⌜ i < length (now totals) ⌝ }
-    ensures { λ r. ⌜ r ≡ within (getD (now (totals .entry)) i (pos 0)) ⌝ }
+    ensures { λ r. ⌜ r ≡ within (getD (given totals) i (pos 0)) ⌝ }
 {
     is_within(totals[i])
 }
@@ -28,7 +29,7 @@ pub fn is_within_at(totals: &[i64], i: usize) -> bool
 // Whether a total, whatever it is, would be within the limit with the change added. One far outside stays outside, and is not added to.
 pub fn fits_at(totals: &[i64], i: usize, from: u64, to: u64) -> bool
     requires { ⌜ (i < length (now totals)) × (from ≤ 2000000000) × (to ≤ 2000000000) ⌝ }
-    ensures { λ r. ⌜ r ≡ within (getD (now (totals .entry)) i (pos 0) +ℤ change from to) ⌝ }
+    ensures { λ r. ⌜ r ≡ within (getD (given totals) i (pos 0) +ℤ change from to) ⌝ }
 {
     let total = totals[i];
     if (total < -18014398509481984) | (18014398509481984 < total) {
@@ -39,7 +40,7 @@ pub fn fits_at(totals: &[i64], i: usize, from: u64, to: u64) -> bool
 
 pub fn add_at(totals: &mut [i64], i: usize, from: u64, to: u64)
     requires { ⌜ (i < length (now totals)) × (from ≤ 2000000000) × (to ≤ 2000000000) × (natAbs (getD (now totals) i (pos 0)) < 2 ^ 60) ⌝ }
-    ensures { λ r. ⌜ now (totals .exit) ≡ addAt (now (totals .entry)) i (change from to) ⌝ }
+    ensures { λ r. ⌜ final totals ≡ addAt (given totals) i (change from to) ⌝ }
 {
     totals[i] += to as i64 - from as i64;
 }

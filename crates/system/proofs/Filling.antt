@@ -13,7 +13,7 @@ use lib.IntN.{ℤ, pos}
 use lib.ListN.{length, set, length-set}
 use lib.Seq.{getD-set-same, getD-set-other}
 use lib.Ieee.{Float, nan, binary64, sub, neg}
-use Rattle.basics.proofs.Tests.{le-or-lt, row-in}
+use Rattle.basics.proofs.Tests.{le-or-lt}
 use Rattle.floats.specs.Floats.{posZero, one}
 use Rattle.model.specs.Status.{statusNumber}
 use Rattle.model.specs.declared.StateStatus.{StateStatus}
@@ -24,7 +24,7 @@ use Rattle.marking.proofs.Below.{sum-more, sum-part}
 use Rattle.marking.proofs.Rows.{row-fits}
 use Rattle.linear.specs.Arithmetic.{rounded}
 use Rattle.linear.specs.Elimination.{system}
-use Rattle.linear.specs.Flat.{at, from, rowsOf, Becomes}
+use Rattle.linear.specs.Flat.{at, from, Becomes}
 use Rattle.series.specs.Scratch.{width}
 use Rattle.linear.specs.Loops.{Filled}
 use Rattle.linear.proofs.Parts.{outside-row}

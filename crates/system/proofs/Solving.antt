@@ -1,8 +1,8 @@
 -- What elimination, series and share leave in scratch is the solution of the definition.
-use Prim.Native.Nat.{ℕ, _+_, _-_, _*_, _<_, _≤_}
+use Prim.Native.Nat.{ℕ, _+_, _*_, _<_}
 use mathlib.Core.Path.{_≡_, refl, sym, _∙_}
 use mathlib.Core.List.{List}
-use mathlib.Core.Logic.{inl, inr}
+use mathlib.Core.Logic.{inl}
 use native.Mathlib.Omega.{arith}
 use lib.IntN.{ℤ}
 use lib.Ieee.{Float}
@@ -12,23 +12,23 @@ use Rattle.marking.specs.Marks.{Cells}
 use Rattle.linear.specs.Arithmetic.{rounded}
 use Rattle.linear.specs.Elimination.{Answer, solved, singular, matrixOf, gaussJordan}
 use Rattle.series.specs.Series.{Series, converged, notConverged, sumOf, sumSeries, fallbackWithinMoves}
-use Rattle.linear.specs.Flat.{at, from, rowsOf, solveOf, Becomes, Eliminated}
-use Rattle.series.specs.Scratch.{width, sumAt, shareAt, solvedG1, solvedF, solvedB, sumAnswer, Summed, lastProduct, Shared}
+use Rattle.linear.specs.Flat.{at, rowsOf, solveOf, Becomes, Eliminated}
+use Rattle.series.specs.Scratch.{width, sumAt, solvedG1, solvedF, solvedB, sumAnswer, Summed, lastProduct, Shared}
 use Rattle.linear.specs.declared.Solve.{Solve}
 use Rattle.linear.specs.declared.Solve.the-variants.{Solved, Singular}
 use Rattle.series.specs.declared.Sum.{Sum}
 use Rattle.series.specs.declared.Sum.the-variants as Sum
-use Rattle.basics.proofs.Tests.{row-in}
+use Rattle.basics.proofs.Tests.{zero-not-one, row-in}
 use Rattle.linear.proofs.Cells.{eliminated-of}
 use Rattle.series.proofs.Rounds.{summed-of, shared-of}
 use Rattle.system.specs.Rows.{systemOf}
-use Rattle.system.specs.Solution.{Solution, solution, unsolved, summedUp, solutionFrom, solutionOf, Stands, SolvedIn}
+use Rattle.system.specs.Solution.{solution, unsolved, summedUp, solutionFrom, solutionOf, Stands, SolvedIn}
 
 -- ---- by the answers of the parts
 
 from-singular : (N rounds moves : ℕ) (a : Answer Float) → Singular ≡ solveOf a → solutionFrom N rounds moves a ≡ unsolved 17
 from-singular N rounds moves (singular A) e = refl
-from-singular N rounds moves (solved A) e = absurd (let n : _≡_ {A = ℕ} 0 1 = cc in omega arith)
+from-singular N rounds moves (solved A) e = absurd (zero-not-one cc)
 
 module _ (N rounds moves : ℕ) (a : Answer Float) where
   G1 : ℕ → Float
@@ -50,17 +50,20 @@ module _ (N rounds moves : ℕ) (a : Answer Float) where
   unfolding G1 F B series share
   from-solved e = go a e
     where
-      go : (a : Answer Float) → Solved ≡ solveOf a → solutionFrom N rounds moves a ≡ summedUp (λ i. matrixOf a i N) (fallbackWithinMoves rounded N (λ i j. matrixOf a i (N + 2 + j)) (λ i. matrixOf a i (N + 1)) moves) (sumSeries rounded N (λ i j. matrixOf a i (N + 2 + j)) (λ i. matrixOf a i N) rounds)
+      go : (a : Answer Float) → Solved ≡ solveOf a
+          → solutionFrom N rounds moves a ≡ summedUp (λ i. matrixOf a i N)
+          (fallbackWithinMoves rounded N (λ i j. matrixOf a i (N + 2 + j)) (λ i. matrixOf a i (N + 1)) moves)
+          (sumSeries rounded N (λ i j. matrixOf a i (N + 2 + j)) (λ i. matrixOf a i N) rounds)
       go (solved A) e = refl
-      go (singular A) e = absurd (let n : _≡_ {A = ℕ} 0 1 = cc in omega arith)
+      go (singular A) e = absurd (zero-not-one cc)
 
 not-summed : (g h : ℕ → Float) (s : Series Float) → Sum.NotConverged ≡ sumAnswer s → summedUp g h s ≡ unsolved 18
 not-summed g h (notConverged sum term) e = refl
-not-summed g h (converged sum term) e = absurd (let n : _≡_ {A = ℕ} 0 1 = cc in omega arith)
+not-summed g h (converged sum term) e = absurd (zero-not-one cc)
 
 is-summed : (g h : ℕ → Float) (s : Series Float) → Sum.Converged ≡ sumAnswer s → summedUp g h s ≡ solution g (sumOf s) h
 is-summed g h (converged sum term) e = refl
-is-summed g h (notConverged sum term) e = absurd (let n : _≡_ {A = ℕ} 0 1 = cc in omega arith)
+is-summed g h (notConverged sum term) e = absurd (zero-not-one cc)
 
 -- ---- in scratch
 
@@ -71,7 +74,8 @@ module _ (rounds moves : ℕ) (C : Cells) (total : ℕ → ℤ) (l₀ l m : List
   a : Answer Float
   a = gaussJordan rounded (C .states) (systemOf C total)
 
-  eliminated : (x : Solve) → Eliminated (C .states) (width (C .states)) (gaussJordan rounded (C .states) (rowsOf (width (C .states)) l)) l x m → Eliminated (C .states) (width (C .states)) (gaussJordan rounded (C .states) (systemOf C total)) l x m
+  eliminated : (x : Solve) → Eliminated (C .states) (width (C .states)) (gaussJordan rounded (C .states) (rowsOf (width (C .states)) l)) l x m
+      → Eliminated (C .states) (width (C .states)) (gaussJordan rounded (C .states) (systemOf C total)) l x m
   eliminated x e = eliminated-of (C .states) (width (C .states)) (omega arith) l m x (systemOf C total) (b .cells) e
 
   pub solved-singular : Eliminated (C .states) (width (C .states)) (gaussJordan rounded (C .states) (rowsOf (width (C .states)) l)) l Singular m
@@ -90,7 +94,8 @@ module _ (rounds moves : ℕ) (C : Cells) (total : ℕ → ℤ) (l₀ l m : List
     unfolding a
     cell = eliminated Solved e .becomes .cells
 
-    module _ (s : List Float) (x : Sum) (q : Summed (C .states) rounds (sumSeries rounded (C .states) (solvedB (C .states) m) (solvedG1 (C .states) m) rounds) m x s) where
+    module _ (s : List Float) (x : Sum)
+        (q : Summed (C .states) rounds (sumSeries rounded (C .states) (solvedB (C .states) m) (solvedG1 (C .states) m) rounds) m x s) where
       sum-is : Summed (C .states) rounds (series N rounds moves a) m x s
       unfolding series B G1 N
       sum-is =
@@ -110,7 +115,8 @@ module _ (rounds moves : ℕ) (C : Cells) (total : ℕ → ℤ) (l₀ l m : List
 
       module _
           (t : List Float)
-          (p : Shared (C .states) moves (fallbackWithinMoves rounded (C .states) (solvedB (C .states) s) (solvedF (C .states) s) moves) (lastProduct (C .states) (solvedB (C .states) s) (solvedF (C .states) s) moves) s t) where
+          (p : Shared (C .states) moves (fallbackWithinMoves rounded (C .states) (solvedB (C .states) s) (solvedF (C .states) s) moves)
+          (lastProduct (C .states) (solvedB (C .states) s) (solvedF (C .states) s) moves) s t) where
         share-is : Shared (C .states) moves (share N rounds moves a) (lastProduct N (B N rounds moves a) (F N rounds moves a) moves) s t
         unfolding share B F N
         share-is =
@@ -126,7 +132,8 @@ module _ (rounds moves : ℕ) (C : Cells) (total : ℕ → ℤ) (l₀ l m : List
             stands =
                 record {
                   first = λ k g.
-                      share-is .elsewhere (k * width (C .states) + C .states) (inl (omega (arith, row-in k (C .states) (width (C .states)) g))) (inl (omega (arith, row-in k (C .states) (width (C .states)) g)))
+                      share-is .elsewhere (k * width (C .states) + C .states) (inl (omega (arith, row-in k (C .states) (width (C .states)) g)))
+                      (inl (omega (arith, row-in k (C .states) (width (C .states)) g)))
                       ∙ cell′ k (C .states) g (omega arith);
                   sums = λ k g. share-is .elsewhere (sumAt (C .states) + k) (inl (omega arith)) (inl (omega arith)) ∙ sum-is .sums k g;
                   shares = share-is .shares;

@@ -5,20 +5,20 @@ use refusals::Check;
 use refusals::Refusal;
 use series::Sum;
 ghost use mathlib.Core.Path.{_≡_};
-ghost use mathlib.Core.Bool.{true, cond, not};
+ghost use mathlib.Core.Bool.{true, cond};
 ghost use Prim.Native.Nat.{ℕ, _+_, _*_, _<_, _≤_, _^_};
 ghost use lib.Dec.{eqb};
-ghost use lib.IntN.{ℤ, pos};
-ghost use lib.ListN.{length, getD};
+ghost use lib.IntN.{pos};
+ghost use lib.ListN.{length};
 ghost use lib.Ieee.{binary64, inFloat, sub, neg};
+ghost use Rattle.basics.specs.Loan.{given, final};
 ghost use Rattle.floats.specs.Floats.{one, posZero};
-ghost use Rattle.marking.specs.Below.{someTo};
 ghost use Rattle.model.specs.Status.{statusNumber};
 ghost use Rattle.marking.specs.Marks.{cellOf, cellsOf, markOf};
 ghost use Rattle.linear.specs.Flat.{Becomes};
 ghost use Rattle.series.specs.Scratch.{Scratch, width};
 ghost use Rattle.linear.specs.Loops.{Filled};
-ghost use Rattle.system.specs.Rows.{used, part, Q, T, K, fallback, systemOf};
+ghost use Rattle.system.specs.Rows.{part, systemOf};
 ghost use Rattle.system.specs.Tables.{totalOf, Exact, Marks};
 ghost use Rattle.system.specs.Solution.{solutionOf, SolvedIn};
 
@@ -36,7 +36,7 @@ fn part_of(count: u64, observed: u64, is_used: bool) -> f64
 // The move total of x by its observations, or zero.
 fn total_part(totals: &[i64], x: usize, observed: u64, is_used: bool) -> f64
     requires { ⌜ (x < length (now totals)) × (inFloat binary64 (totalOf (now totals) x) ≡ true) × (observed ≤ 2 ^ 53) ⌝ }
-    ensures { λ r. ⌜ r ≡ part «is_used» (totalOf (now (totals .entry)) x) observed ⌝ }
+    ensures { λ r. ⌜ r ≡ part «is_used» (totalOf (given totals) x) observed ⌝ }
 {
     if is_used {
         return floats::inner::from_i64(totals[x]) / floats::inner::from_u64(observed);
@@ -75,7 +75,7 @@ fn fill_stay(
     to: usize,
 )
     requires { ⌜ (x * n + n ≤ length (now stay)) × ((k : ℕ) → k < n → cellOf n (now stay) x k ≤ 2 ^ 53) × (observed ≤ 2 ^ 53) × (to + n ≤ length (now scratch)) ⌝ }
-    ensures { λ _. ⌜ Filled to n (λ k. let q = part «is_used» (pos (cellOf n (now (stay .entry)) x k)) observed in cond (eqb x k) (sub binary64 one q) (neg q)) (now (scratch .entry)) (now (scratch .exit)) ⌝ }
+    ensures { λ _. ⌜ Filled to n (λ k. let q = part «is_used» (pos (cellOf n (given stay) x k)) observed in cond (eqb x k) (sub binary64 one q) (neg q)) (given scratch) (final scratch) ⌝ }
 {
     let row = x * n;
     let mut k: usize = 0;
@@ -97,7 +97,7 @@ fn fill_moved(
     to: usize,
 )
     requires { ⌜ (x * n + n ≤ length (now moved)) × ((k : ℕ) → k < n → cellOf n (now moved) x k ≤ 2 ^ 53) × (observed ≤ 2 ^ 53) × (to + n ≤ length (now scratch)) ⌝ }
-    ensures { λ _. ⌜ Filled to n (λ k. part «is_used» (pos (cellOf n (now (moved .entry)) x k)) observed) (now (scratch .entry)) (now (scratch .exit)) ⌝ }
+    ensures { λ _. ⌜ Filled to n (λ k. part «is_used» (pos (cellOf n (given moved) x k)) observed) (given scratch) (final scratch) ⌝ }
 {
     let row = x * n;
     let mut k: usize = 0;
@@ -118,7 +118,8 @@ fn fill_row(
     scratch: &mut [f64],
 )
     requires { ⌜ Exact n (now stay) (now moved) (now totals) × (x < n) × (n * width n ≤ length (now scratch)) ⌝ }
-    ensures { λ _. ⌜ ((least : ℕ) → mark ≡ statusNumber (markOf (cellsOf n least (now (stay .entry)) (now (moved .entry))) x) → Filled (x * width n) (width n) (systemOf (cellsOf n least (now (stay .entry)) (now (moved .entry))) (totalOf (now (totals .entry))) x) (now (scratch .entry)) (now (scratch .exit))) ⌝ }
+    ensures { λ _. ⌜ ((least : ℕ) → let C = cellsOf n least (given stay) (given moved) in mark ≡ statusNumber (markOf C x)
+        → Filled (x * width n) (width n) (systemOf C (totalOf (given totals)) x) (given scratch) (final scratch)) ⌝ }
 {
     let observed = marking::observations_of(stay, moved, n, x);
     let is_used = mark == 0;
@@ -139,7 +140,8 @@ fn fill_system(
     scratch: &mut [f64],
 )
     requires { ⌜ Exact n (now stay) (now moved) (now totals) × (n ≤ length (now marks)) × (n * width n ≤ length (now scratch)) ⌝ }
-    ensures { λ _. ⌜ ((least : ℕ) → Marks (cellsOf n least (now (stay .entry)) (now (moved .entry))) (now (marks .entry)) → Becomes n (width n) (systemOf (cellsOf n least (now (stay .entry)) (now (moved .entry))) (totalOf (now (totals .entry)))) (now (scratch .entry)) (now (scratch .exit))) ⌝ }
+    ensures { λ _. ⌜ ((least : ℕ) → let C = cellsOf n least (given stay) (given moved) in Marks C (given marks)
+        → Becomes n (width n) (systemOf C (totalOf (given totals))) (given scratch) (final scratch)) ⌝ }
 {
     let mut x: usize = 0;
     while x < n {
@@ -160,7 +162,7 @@ pub fn solve_system(
     scratch: &mut [f64],
 ) -> Check
     requires { ⌜ Exact n (now stay) (now moved) (now totals) × (n ≤ length (now marks)) × Scratch n (now scratch) ⌝ }
-    ensures { λ r. ⌜ ((least : ℕ) → Marks (cellsOf n least (now (stay .entry)) (now (moved .entry))) (now (marks .entry)) → SolvedIn n (solutionOf rounds moves (cellsOf n least (now (stay .entry)) (now (moved .entry))) (totalOf (now (totals .entry)))) r (now (scratch .exit))) ⌝ }
+    ensures { λ r. ⌜ ((least : ℕ) → let C = cellsOf n least (given stay) (given moved) in Marks C (given marks) → SolvedIn n (solutionOf rounds moves C (totalOf (given totals))) r (final scratch)) ⌝ }
 {
     fill_system(stay, moved, totals, n, marks, scratch);
     let Solve::Solved = linear::inner::gauss_jordan(scratch, n, 2 * n + 2) else {

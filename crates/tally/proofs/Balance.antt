@@ -111,7 +111,8 @@ module _ (K N : ℕ) (mirror : ℕ → ℕ) (below : (i : ℕ) → i < N → mir
   swap-both a i ha hi = swap (mirror a) i (below a ha) hi ∙ ap (λ (n : ℕ). eqb n i) (again a ha)
 
   module _ (t : ℤ → Bool) (even : (d : ℤ) → t (negℤ d) ≡ t d) where
-    cells-mirrored : (es : List Event) → AllIn K N es → (i j : ℕ) → i < N → j < N → cellAt (λ e. t (e .change)) (entries mirror es) (mirror i) (mirror j) ≡ cellAt (λ e. t (e .change)) (entries mirror es) i j
+    cells-mirrored : (es : List Event) → AllIn K N es → (i j : ℕ) → i < N → j < N
+        → cellAt (λ e. t (e .change)) (entries mirror es) (mirror i) (mirror j) ≡ cellAt (λ e. t (e .change)) (entries mirror es) i j
     cells-mirrored [] r i j hi hj = refl
     cells-mirrored (first ∷ es) r i j hi hj = cells-mirrored es (r .1) i j hi hj
     cells-mirrored (skip k ∷ es) r i j hi hj = cells-mirrored es (r .1) i j hi hj
@@ -177,7 +178,8 @@ sum-cells N t (e ∷ F) r =
         (λ k b q. ap bit (fails _ (λ h. q (goes-cell N k e (both (goes (k / N) (k % N) e) (t e) h .0)))))
         ∙ rw (flat-row N (e .from) (e .to) (r .1), flat-column N (e .from) (e .to) (r .1), goes-own e)
 
-two-sorts : (mirror : ℕ → ℕ) (es : List Event) → count (λ e. isZero (e .change)) (entries mirror es) + count (λ e. not (isZero (e .change))) (entries mirror es) ≡ 2 * count isPair es
+two-sorts : (mirror : ℕ → ℕ) (es : List Event)
+    → count (λ e. isZero (e .change)) (entries mirror es) + count (λ e. not (isZero (e .change))) (entries mirror es) ≡ 2 * count isPair es
 two-sorts mirror [] = refl
 two-sorts mirror (first ∷ es) = omega (arith, two-sorts mirror es)
 two-sorts mirror (skip k ∷ es) = omega (arith, two-sorts mirror es)
@@ -189,7 +191,8 @@ two-sorts mirror (pair i j d ∷ es) = omega (arith, two-sorts mirror es, one (i
 
 -- ---- the counts of events are balanced, if those that they start from are
 
-pub after-balanced : (K N : ℕ) (mirror : ℕ → ℕ) → ((i : ℕ) → i < N → mirror i < N) → ((i : ℕ) → i < N → mirror (mirror i) ≡ i) → (c : Counts) → Sized K N c → Balanced N mirror c → (es : List Event) → AllIn K N es → Balanced N mirror (after K N mirror c es)
+pub after-balanced : (K N : ℕ) (mirror : ℕ → ℕ) → ((i : ℕ) → i < N → mirror i < N) → ((i : ℕ) → i < N → mirror (mirror i) ≡ i) → (c : Counts) → Sized K N c
+    → Balanced N mirror c → (es : List Event) → AllIn K N es → Balanced N mirror (after K N mirror c es)
 after-balanced K N mirror below again c z B es r =
     record {
       stay-mirrored = mirrored isZero zero-neg (c .tables .stay) (B .stay-mirrored);
@@ -202,8 +205,13 @@ after-balanced K N mirror below again c z B es r =
           ∙ sym
           (ap negℤ (getD-tab N total i (pos 0) hi) ∙ negℤ-+ℤ (getD (c .tables .totals) i (pos 0)) (totalAt F i));
       twice =
-          omega
-          (arith, sums (c .tables .stay) (z .stay-cells) (λ e. isZero (e .change)), sums (c .tables .moved) (z .moved-cells) (λ e. not (isZero (e .change))), two-sorts mirror es, B .twice);
+          omega (
+            arith,
+            sums (c .tables .stay) (z .stay-cells) (λ e. isZero (e .change)),
+            sums (c .tables .moved) (z .moved-cells) (λ e. not (isZero (e .change))),
+            two-sorts mirror es,
+            B .twice,
+          );
     }
   where
     F : List Entry
@@ -212,7 +220,10 @@ after-balanced K N mirror below again c z B es r =
     total : ℕ → ℤ
     total i = getD (c .tables .totals) i (pos 0) +ℤ totalAt F i
 
-    mirrored : (t : ℤ → Bool) → ((d : ℤ) → t (negℤ d) ≡ t d) → (l : List ℕ) → ((i j : ℕ) → i < N → j < N → getD l (mirror i * N + mirror j) 0 ≡ getD l (i * N + j) 0) → (i j : ℕ) → i < N → j < N → getD (square N (λ x y. getD l (x * N + y) 0 + cellAt (λ e. t (e .change)) F x y)) (mirror i * N + mirror j) 0 ≡ getD (square N (λ x y. getD l (x * N + y) 0 + cellAt (λ e. t (e .change)) F x y)) (i * N + j) 0
+    mirrored : (t : ℤ → Bool) → ((d : ℤ) → t (negℤ d) ≡ t d) → (l : List ℕ)
+        → ((i j : ℕ) → i < N → j < N → getD l (mirror i * N + mirror j) 0 ≡ getD l (i * N + j) 0) → (i j : ℕ) → i < N → j < N
+        → getD (square N (λ x y. getD l (x * N + y) 0 + cellAt (λ e. t (e .change)) F x y)) (mirror i * N + mirror j) 0 ≡ getD
+        (square N (λ x y. getD l (x * N + y) 0 + cellAt (λ e. t (e .change)) F x y)) (i * N + j) 0
     mirrored t even l b i j hi hj =
         getD-square N f (mirror i) (mirror j) 0 (below i hi) (below j hj)
         ∙ (λ u. b i j hi hj u + cells-mirrored K N mirror below again t even es r i j hi hj u)
@@ -257,8 +268,14 @@ module _ (R : Rule) (W : Lawful R) where
       (arith, ap bit (W .event-first l q ∙ ap not e), firsts-none (R .arrive l q) qs (W .arrive-started l q))
 
   -- pairs and skips are the quotes less one, and 0 for none
-  pub neighbours-counted : (l : R .Last) (qs : List (R .Quote)) → R .started l ≡ false → count isPair (events R l qs) + sum (tab (R .kinds) (λ k. count (isSkip k) (events R l qs))) ≡ length qs - 1
+  pub neighbours-counted : (l : R .Last) (qs : List (R .Quote)) → R .started l ≡ false
+      → count isPair (events R l qs) + sum (tab (R .kinds) (λ k. count (isSkip k) (events R l qs))) ≡ length qs - 1
   neighbours-counted l [] e = omega (arith, sum-tab-zero (R .kinds) (λ k. 0) (λ k b. refl))
   neighbours-counted l (q ∷ qs) e =
-      omega
-      (arith, all-sorts (R .kinds) (R .states) (events R l (q ∷ qs)) (events-in R W l (q ∷ qs)), length-events (R .arrive l q) qs, firsts-none (R .arrive l q) qs (W .arrive-started l q), ap bit (W .event-first l q ∙ ap not e))
+      omega (
+        arith,
+        all-sorts (R .kinds) (R .states) (events R l (q ∷ qs)) (events-in R W l (q ∷ qs)),
+        length-events (R .arrive l q) qs,
+        firsts-none (R .arrive l q) qs (W .arrive-started l q),
+        ap bit (W .event-first l q ∙ ap not e),
+      )

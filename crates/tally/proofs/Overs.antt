@@ -33,7 +33,8 @@ pub record Within (c : Counts) : Type 0 where
 
 pub within-known : (c : Counts) → over c ≡ false → Within c
 within-known c e =
-    let t = neither (overCounter (c .pairs) || any overCounter (c .skips) || any overCell (c .tables .stay) || any overCell (c .tables .moved)) (any overTotal (c .tables .totals)) e in
+    let t = neither (overCounter (c .pairs) || any overCounter (c .skips) || any overCell (c .tables .stay) || any overCell (c .tables .moved))
+    (any overTotal (c .tables .totals)) e in
     let m = neither (overCounter (c .pairs) || any overCounter (c .skips) || any overCell (c .tables .stay)) (any overCell (c .tables .moved)) (t .0) in
     let s = neither (overCounter (c .pairs) || any overCounter (c .skips)) (any overCell (c .tables .stay)) (m .0) in
     let k = neither (overCounter (c .pairs)) (any overCounter (c .skips)) (s .0) in
@@ -64,7 +65,8 @@ module _ (K N : ℕ) (mirror : ℕ → ℕ) (below : (i : ℕ) → i < N → mir
       any-one overCounter (c .skips) k n (w .skips-in) there ∙ sym (ap overCounter (getD-set-same (c .skips) k n 0 there))
 
   module _ (i j : ℕ) (d : ℤ) (hi : i < N) (hj : j < N) where
-    cells : (l : List ℕ) → length l ≡ N * N → any overCell l ≡ false → any overCell (bump (bump l (i * N + j)) (mirror i * N + mirror j)) ≡ cellsOver l (i * N + j) (mirror i * N + mirror j)
+    cells : (l : List ℕ) → length l ≡ N * N → any overCell l ≡ false
+        → any overCell (bump (bump l (i * N + j)) (mirror i * N + mirror j)) ≡ cellsOver l (i * N + j) (mirror i * N + mirror j)
     cells l n e =
         any-two overCell 0 l e (i * N + j) (mirror i * N + mirror j) _ _ (rw n (flat-below N i j hj N hi))
         (rw n (flat-below N (mirror i) (mirror j) (below j hj) N (below i hi)))

@@ -1,4 +1,5 @@
--- One event entered into the counts of events makes the counts of the events with it; so an accepted quote on the memory of quotes makes the memory of the quotes with it.
+-- One event entered into the counts of events makes the counts of the events with it; so an accepted quote on the memory of quotes makes the memory of the
+-- quotes with it.
 use mathlib.Core.Path.{_≡_, refl, sym, _∙_, ap}
 use mathlib.Core.Logic.{_≢_}
 use mathlib.Core.Bool.{Bool, true, false, not, cond, _&&_, and-false}
@@ -73,7 +74,8 @@ module _ (N : ℕ) (F : List Entry) (e : Entry) (hf : e .from < N) (ht : e .to <
         miss : (goes (k / N) (k % N) e && t e) ≡ false
         miss = fails _ (λ h. q (goes-cell N k e (both (goes (k / N) (k % N) e) (t e) h .0)))
 
-    pub enter-cell : (b : Bool) → t e ≡ b → bumpIf b (square N (λ i j. s i j + cellAt t F i j)) (cellOf N e) ≡ square N (λ i j. s i j + cellAt t (F ++ e ∷ []) i j)
+    pub enter-cell : (b : Bool) → t e ≡ b
+        → bumpIf b (square N (λ i j. s i j + cellAt t F i j)) (cellOf N e) ≡ square N (λ i j. s i j + cellAt t (F ++ e ∷ []) i j)
     enter-cell true p =
         set-tab (N * N) old new (cellOf N e) (getD (tab (N * N) old) (cellOf N e) 0 + 1) in-square there (λ k b q. elsewhere k q)
       where
@@ -118,7 +120,14 @@ module _ (N : ℕ) (F : List Entry) (e : Entry) (hf : e .from < N) (ht : e .to <
             ∙ +ℤ-idr (oldT m))
 
   -- into all three tables, made of what three functions start from
-  pub enter-one : (s m : ℕ → ℕ → ℕ) (z : ℕ → ℤ) → enter N e (record { stay = square N (λ i j. s i j + stayAt F i j); moved = square N (λ i j. m i j + movedAt F i j); totals = tab N (λ i. z i +ℤ totalAt F i) }) ≡ record { stay = square N (λ i j. s i j + stayAt (F ++ e ∷ []) i j); moved = square N (λ i j. m i j + movedAt (F ++ e ∷ []) i j); totals = tab N (λ i. z i +ℤ totalAt (F ++ e ∷ []) i) }
+  pub enter-one : (s m : ℕ → ℕ → ℕ) (z : ℕ → ℤ)
+      → enter N e
+      (record { stay = square N (λ i j. s i j + stayAt F i j); moved = square N (λ i j. m i j + movedAt F i j); totals = tab N (λ i. z i +ℤ totalAt F i) }) ≡
+      record {
+        stay = square N (λ i j. s i j + stayAt (F ++ e ∷ []) i j);
+        moved = square N (λ i j. m i j + movedAt (F ++ e ∷ []) i j);
+        totals = tab N (λ i. z i +ℤ totalAt (F ++ e ∷ []) i);
+      }
   enter-one s m z =
       λ u.
       record {
@@ -177,7 +186,8 @@ module _ (K N : ℕ) (mirror : ℕ → ℕ) (below : (i : ℕ) → i < N → mir
       ∙ ap (λ (r : List Entry). entries mirror es ++ r) quiet
       ∙ append-nil (entries mirror es)))
 
-  both-tables : (i j : ℕ) (d : ℤ) → i < N → j < N → enterBoth N (forth i j d) (back mirror i j d) (tablesWith (entries mirror es)) ≡ tablesWith (entries mirror (es ++ pair i j d ∷ []))
+  both-tables : (i j : ℕ) (d : ℤ) → i < N → j < N
+      → enterBoth N (forth i j d) (back mirror i j d) (tablesWith (entries mirror es)) ≡ tablesWith (entries mirror (es ++ pair i j d ∷ []))
   both-tables i j d hi hj =
       let F = entries mirror es in
       let a = forth i j d in
@@ -216,7 +226,8 @@ module _ (K N : ℕ) (mirror : ℕ → ℕ) (below : (i : ℕ) → i < N → mir
       }
 
 -- the step law: an accepted quote on the memory of quotes makes the memory of the quotes with it
-pub step-memory : (R : Rule) → Lawful R → (l : R .Last) (c : Counts) (qs : List (R .Quote)) (q : R .Quote) → step R (memoryOf R l c qs) q ≡ memoryOf R l c (qs ++ q ∷ [])
+pub step-memory : (R : Rule) → Lawful R → (l : R .Last) (c : Counts) (qs : List (R .Quote)) (q : R .Quote)
+    → step R (memoryOf R l c qs) q ≡ memoryOf R l c (qs ++ q ∷ [])
 step-memory R W l c qs q =
     λ u.
     record {

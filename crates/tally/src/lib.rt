@@ -1,12 +1,13 @@
 // Counting pairs into tables. Inner functions: for the crates above, not for users. Where one has a `requires`, each caller proves it.
 ghost use mathlib.Core.Path.{_≡_};
 ghost use mathlib.Core.Logic.{_≢_};
-ghost use mathlib.Core.Bool.{not, true, false, _||_};
+ghost use mathlib.Core.Bool.{not, false};
 ghost use Prim.Native.Nat.{_+_, _*_, _≤_, _<_, max};
-ghost use lib.ListN.{length, getD};
-ghost use lib.IntN.{pos, negℤ};
+ghost use lib.ListN.{length};
+ghost use lib.IntN.{negℤ};
+ghost use Rattle.basics.specs.Loan.{given, final};
 ghost use Rattle.signed.specs.Totals.{change, addAt};
-ghost use Rattle.tally.specs.Entries.{bump, overCell, overTotal, tables, enterBoth, forthOf, backOf, touchedOver};
+ghost use Rattle.tally.specs.Entries.{bump, tables, enterBoth, forthOf, backOf, touchedOver};
 ghost use Rattle.tally.specs.Limits.{overCounter};
 ghost use Rattle.tally.specs.Fits.{Placed, cellsOver, totalsOver};
 
@@ -57,7 +58,7 @@ fn once_more(a: usize, b: usize) -> u64
 
 fn cells_fit(t: &[u64], a: usize, b: usize) -> bool
     requires { ⌜ (a < length (now t)) × (b < length (now t)) ⌝ }
-    ensures { λ r. ⌜ r ≡ not (cellsOver (now (t .entry)) a b) ⌝ }
+    ensures { λ r. ⌜ r ≡ not (cellsOver (given t) a b) ⌝ }
 {
     let x = t[a];
     let y = t[b];
@@ -67,7 +68,7 @@ fn cells_fit(t: &[u64], a: usize, b: usize) -> bool
 
 fn add_cells(t: &mut [u64], a: usize, b: usize)
     requires { ⌜ (a < length (now t)) × (b < length (now t)) × (cellsOver (now t) a b ≡ false) ⌝ }
-    ensures { λ r. ⌜ now (t .exit) ≡ bump (bump (now (t .entry)) a) b ⌝ }
+    ensures { λ r. ⌜ final t ≡ bump (bump (given t) a) b ⌝ }
 {
     t[a] += 1;
     t[b] += 1;
@@ -75,7 +76,7 @@ fn add_cells(t: &mut [u64], a: usize, b: usize)
 
 fn totals_fit(t: &[i64], a: usize, b: usize, from: u64, to: u64) -> bool
     requires { ⌜ (a < length (now t)) × (b < length (now t)) × (from ≤ 2000000000) × (to ≤ 2000000000) ⌝ }
-    ensures { λ r. ⌜ r ≡ not (totalsOver (now (t .entry)) a b (change from to)) ⌝ }
+    ensures { λ r. ⌜ r ≡ not (totalsOver (given t) a b (change from to)) ⌝ }
 {
     if a == b {
         return signed::is_within_at(t, a);
@@ -87,7 +88,7 @@ fn totals_fit(t: &[i64], a: usize, b: usize, from: u64, to: u64) -> bool
 
 fn add_totals(t: &mut [i64], a: usize, b: usize, from: u64, to: u64)
     requires { ⌜ (a < length (now t)) × (b < length (now t)) × (from ≤ 2000000000) × (to ≤ 2000000000) × (totalsOver (now t) a b (change from to) ≡ false) ⌝ }
-    ensures { λ r. ⌜ now (t .exit) ≡ addAt (addAt (now (t .entry)) a (change from to)) b (negℤ (change from to)) ⌝ }
+    ensures { λ r. ⌜ final t ≡ addAt (addAt (given t) a (change from to)) b (negℤ (change from to)) ⌝ }
 {
     signed::add_at(t, a, from, to);
     signed::add_at(t, b, to, from);
@@ -96,7 +97,7 @@ fn add_totals(t: &mut [i64], a: usize, b: usize, from: u64, to: u64)
 // Whether every touched cell and total would be within its limit after both entries.
 pub fn pair_fits(n: usize, stay: &[u64], moved: &[u64], totals: &[i64], e: PairEntry) -> bool
     requires { ⌜ Placed n e (length (now stay)) (length (now moved)) (length (now totals)) ⌝ }
-    ensures { λ r. ⌜ r ≡ not (touchedOver n (forthOf e) (backOf e) (enterBoth n (forthOf e) (backOf e) (tables (now (stay .entry)) (now (moved .entry)) (now (totals .entry))))) ⌝ }
+    ensures { λ r. ⌜ r ≡ not (touchedOver n (forthOf e) (backOf e) (enterBoth n (forthOf e) (backOf e) (tables (given stay) (given moved) (given totals)))) ⌝ }
 {
     let a = cell(n, e.from, e.to);
     let b = cell(n, e.mirror_from, e.mirror_to);
@@ -109,8 +110,9 @@ pub fn pair_fits(n: usize, stay: &[u64], moved: &[u64], totals: &[i64], e: PairE
 
 // Enters a pair and its mirror.
 pub fn enter_pair(n: usize, stay: &mut [u64], moved: &mut [u64], totals: &mut [i64], e: PairEntry)
-    requires { ⌜ Placed n e (length (now stay)) (length (now moved)) (length (now totals)) × (touchedOver n (forthOf e) (backOf e) (enterBoth n (forthOf e) (backOf e) (tables (now stay) (now moved) (now totals))) ≡ false) ⌝ }
-    ensures { λ r. ⌜ tables (now (stay .exit)) (now (moved .exit)) (now (totals .exit)) ≡ enterBoth n (forthOf e) (backOf e) (tables (now (stay .entry)) (now (moved .entry)) (now (totals .entry))) ⌝ }
+    requires { ⌜ Placed n e (length (now stay)) (length (now moved)) (length (now totals))
+        × (touchedOver n (forthOf e) (backOf e) (enterBoth n (forthOf e) (backOf e) (tables (now stay) (now moved) (now totals))) ≡ false) ⌝ }
+    ensures { λ r. ⌜ tables (final stay) (final moved) (final totals) ≡ enterBoth n (forthOf e) (backOf e) (tables (given stay) (given moved) (given totals)) ⌝ }
 {
     let a = cell(n, e.from, e.to);
     let b = cell(n, e.mirror_from, e.mirror_to);

@@ -8,7 +8,7 @@ use lib.Dec.{leb, eqb}
 use lib.ListN.{length, getD, drop, set, length-set}
 use lib.Seq.{sets, getD-set-same}
 use borrow.Author.Tests.{leb-true}
-use Rattle.basics.proofs.Tests.{both}
+use Rattle.basics.proofs.Tests.{zero-not-one, both}
 use Rattle.basics.proofs.Stores.{sets-below}
 use Rattle.text.specs.Reading.{begin, ended, fine, numbersOf, wholeLines, fewStates, requestOf, Reading, asked, bad, readNumbers, readText, answerOf, recordingBy, ReadBy}
 use Rattle.text.specs.declared.Read.{Read}
@@ -41,13 +41,13 @@ module _ (f : Bool) (m : ℕ) where
     where
       go : (g : Bool) → f ≡ g → All n ≡ cond g (All m) Broken → (f ≡ true) × (n ≡ m)
       go true h d = (h, cc)
-      go false h d = absurd (let z : _≡_ {A = ℕ} 0 1 = cc in omega arith)
+      go false h d = absurd (zero-not-one cc)
 
   pub broken-told : Broken ≡ cond f (All m) Broken → f ≡ false
   broken-told e = go f refl e
     where
       go : (g : Bool) → f ≡ g → Broken ≡ cond g (All m) Broken → f ≡ false
-      go true h d = absurd (let z : _≡_ {A = ℕ} 0 1 = cc in omega arith)
+      go true h d = absurd (zero-not-one cc)
       go false h d = h
 
 -- a text is answered by what it reads
@@ -77,17 +77,21 @@ module _ (b before : List ℕ) where
         ap (λ (x : List ℕ). getD x k 0) stored
         ∙ front (ended begin b) l k (omega (arith, long)) (omega arith)
 
-    reads : (x : Bool) → (wholeLines (length (ended begin b)) && fewStates (getD (ended begin b) 1 0) (getD (ended begin b) 2 0)) ≡ x → readText b ≡ cond x (asked (requestOf (ended begin b)) (drop 7 (ended begin b))) bad
+    reads : (x : Bool) → (wholeLines (length (ended begin b)) && fewStates (getD (ended begin b) 1 0) (getD (ended begin b) 2 0)) ≡ x
+        → readText b ≡ cond x (asked (requestOf (ended begin b)) (drop 7 (ended begin b))) bad
     unfolding readText
     reads x e =
         ap (λ (y : Bool). cond y (readNumbers (ended begin b)) bad) good
         ∙ ap (λ (y : Bool). cond y (asked (requestOf (ended begin b)) (drop 7 (ended begin b))) bad) e
 
     -- the test of the code is the test of the definition
-    tested : (wholeLines n && fewStates (getD head 1 0) (getD head 2 0)) ≡ (wholeLines (length (ended begin b)) && fewStates (getD (ended begin b) 1 0) (getD (ended begin b) 2 0))
+    tested : (wholeLines n && fewStates (getD head 1 0) (getD head 2 0)) ≡
+        (wholeLines (length (ended begin b)) && fewStates (getD (ended begin b) 1 0) (getD (ended begin b) 2 0))
     tested = go (wholeLines n) refl
       where
-        go : (x : Bool) → wholeLines n ≡ x → (wholeLines n && fewStates (getD head 1 0) (getD head 2 0)) ≡ (wholeLines (length (ended begin b)) && fewStates (getD (ended begin b) 1 0) (getD (ended begin b) 2 0))
+        go : (x : Bool) → wholeLines n ≡ x
+            → (wholeLines n && fewStates (getD head 1 0) (getD head 2 0)) ≡
+            (wholeLines (length (ended begin b)) && fewStates (getD (ended begin b) 1 0) (getD (ended begin b) 2 0))
         go true e =
             let p = at 1 (omega arith) (whole-least n e) in
             let q = at 2 (omega arith) (whole-least n e) in
@@ -102,7 +106,16 @@ module _ (b before : List ℕ) where
     pub read-asked : (left : List ℕ) → (wholeLines n && fewStates (getD head 1 0) (getD head 2 0)) ≡ true → left ≡ sets before 0 (drop 7 (ended begin b))
         → ReadBy (readText b) before
         (Read.Request
-        (record { tick = getD head 0 0; buckets = getD head 1 0; «spread_states» = getD head 2 0; least = getD head 3 0; gap = getD head 4 0; start = getD head 5 0; end = getD head 6 0; quotes = (n - 7) / 5 }))
+        (record {
+          tick = getD head 0 0;
+          buckets = getD head 1 0;
+          «spread_states» = getD head 2 0;
+          least = getD head 3 0;
+          gap = getD head 4 0;
+          start = getD head 5 0;
+          end = getD head 6 0;
+          quotes = (n - 7) / 5;
+        }))
         left
     read-asked left e f =
         let h = whole-least n (both (wholeLines n) (fewStates (getD head 1 0) (getD head 2 0)) e .0) in
@@ -115,5 +128,6 @@ module _ (b before : List ℕ) where
         let p6 = at 6 (omega arith) h in
         read-by (readText b) (asked (requestOf (ended begin b)) (drop 7 (ended begin b))) before _ left
         (reads true (sym tested ∙ e))
-        (λ i. Read.Request (record { tick = p0 i; buckets = p1 i; «spread_states» = p2 i; least = p3 i; gap = p4 i; start = p5 i; end = p6 i; quotes = (long i - 7) / 5 }))
+        (λ i. Read.Request
+        (record { tick = p0 i; buckets = p1 i; «spread_states» = p2 i; least = p3 i; gap = p4 i; start = p5 i; end = p6 i; quotes = (long i - 7) / 5 }))
         f

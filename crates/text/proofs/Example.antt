@@ -56,6 +56,9 @@ unfolding readText
 bad-read = refl
 
 -- 18446744073709551615 0 18446744073709551615: 2^64 − 1, n × s = 0 and no quotes are fine
-pub large-read : readText (49 ∷ 56 ∷ 52 ∷ 52 ∷ 54 ∷ 55 ∷ 52 ∷ 52 ∷ 48 ∷ 55 ∷ 51 ∷ 55 ∷ 48 ∷ 57 ∷ 53 ∷ 53 ∷ 49 ∷ 54 ∷ 49 ∷ 53 ∷ 32 ∷ 48 ∷ 32 ∷ 49 ∷ 56 ∷ 52 ∷ 52 ∷ 54 ∷ 55 ∷ 52 ∷ 52 ∷ 48 ∷ 55 ∷ 51 ∷ 55 ∷ 48 ∷ 57 ∷ 53 ∷ 53 ∷ 49 ∷ 54 ∷ 49 ∷ 53 ∷ line-end) ≡ asked (record { tick = 18446744073709551615; buckets = 0; «spread_states» = 18446744073709551615; least = 1; gap = 1000; start = 0; end = 10; quotes = 0 }) []
+pub large-read : readText
+    (49 ∷ 56 ∷ 52 ∷ 52 ∷ 54 ∷ 55 ∷ 52 ∷ 52 ∷ 48 ∷ 55 ∷ 51 ∷ 55 ∷ 48 ∷ 57 ∷ 53 ∷ 53 ∷ 49 ∷ 54 ∷ 49 ∷ 53 ∷ 32 ∷ 48 ∷ 32 ∷ 49 ∷ 56 ∷ 52 ∷ 52 ∷ 54 ∷ 55 ∷ 52 ∷ 52
+    ∷ 48 ∷ 55 ∷ 51 ∷ 55 ∷ 48 ∷ 57 ∷ 53 ∷ 53 ∷ 49 ∷ 54 ∷ 49 ∷ 53 ∷ line-end) ≡ asked
+    (record { tick = 18446744073709551615; buckets = 0; «spread_states» = 18446744073709551615; least = 1; gap = 1000; start = 0; end = 10; quotes = 0 }) []
 unfolding readText
 large-read = refl

@@ -9,7 +9,7 @@ use lib.Dec.{leb, ltb, eqb}
 use lib.ListN.{length, getD, take, drop, length-drop}
 use lib.Seq.{sets, sets-eq, take-at}
 use borrow.Author.Tests.{lt-ltb, le-ltb, eq-eqb, ne-eqb, le-leb, eqb-true, leb-true, eqb-false, not-true}
-use Rattle.basics.proofs.Tests.{both, le-or-lt, eqb-same}
+use Rattle.basics.proofs.Tests.{zero-not-one, both, le-or-lt, eqb-same}
 use Rattle.words.specs.Words.{AllWords}
 use Rattle.text.specs.Text.{digit, decimal, space, newline, lineOf, quoteLines, firstLine, textOf, Admissible}
 use Rattle.text.specs.Reading.{scan, after, isDigit, takes, digitStep, stepOf, begin, ended, fine, wholeLines, fewStates, requestOf, asked, bad, readNumbers, readText}
@@ -70,14 +70,16 @@ walk-number zero n k r h g = walk-digit n k r (omega arith)
 walk-number (suc fuel) n k r h g =
     by (le-or-lt 10 n) (λ s. walk-number fuel (n / 10) k (digit (n % 10) ∷ r) (omega arith) (omega arith))
   where
-    by : (10 ≤ n) ⊎ (n < 10) → (10 ≤ n → Same (scan k 0 false) (decimal (n / 10) ++ digit (n % 10) ∷ r) (scan k (n / 10) true) (digit (n % 10) ∷ r)) → Same (scan k 0 false) (decimal n ++ r) (scan k n true) r
+    by : (10 ≤ n) ⊎ (n < 10) → (10 ≤ n → Same (scan k 0 false) (decimal (n / 10) ++ digit (n % 10) ∷ r) (scan k (n / 10) true) (digit (n % 10) ∷ r))
+        → Same (scan k 0 false) (decimal n ++ r) (scan k n true) r
     by (inr s) f = walk-digit n k r s
     by (inl s) f =
         let first = f s in
         let positive : eqb (n / 10) 0 ≡ false = ne-eqb (n / 10) 0 (λ e. omega arith) in
         let small : ltb (n / 10 * 10 + n % 10) (2 ^ 64) ≡ true = lt-ltb (n / 10 * 10 + n % 10) (2 ^ 64) (omega arith) in
         let last = same-digit k (n / 10) (n % 10) true r n (omega arith) (λ i. not (positive i) && small i) (omega arith) in
-        let split : decimal n ++ r ≡ decimal (n / 10) ++ digit (n % 10) ∷ r = ap (λ (l : List ℕ). l ++ r) (decimal-more n s) ∙ append-assoc (decimal (n / 10)) (digit (n % 10) ∷ []) r in
+        let split : decimal n ++ r ≡ decimal (n / 10) ++ digit (n % 10) ∷ r =
+        ap (λ (l : List ℕ). l ++ r) (decimal-more n s) ∙ append-assoc (decimal (n / 10)) (digit (n % 10) ∷ []) r in
         record {
           same-fine = ap (fine (scan k 0 false)) split ∙ first .same-fine ∙ last .same-fine;
           same-ended = ap (ended (scan k 0 false)) split ∙ first .same-ended ∙ last .same-ended;
@@ -104,7 +106,8 @@ pub record Sound (s : Scan) : Type 0 where
   pub word : s .value < 2 ^ 64
 
 -- a digit more is one byte more
-pending-more : (b : Bool) (v d : ℕ) (r : List ℕ) → (b ≡ false → v ≡ 0) → takes b v d ≡ true → d ≤ 9 → decimal (v * 10 + d) ++ r ≡ cond b (decimal v) [] ++ digit d ∷ r
+pending-more : (b : Bool) (v d : ℕ) (r : List ℕ) → (b ≡ false → v ≡ 0) → takes b v d ≡ true → d ≤ 9
+    → decimal (v * 10 + d) ++ r ≡ cond b (decimal v) [] ++ digit d ∷ r
 pending-more true v d r f e h =
     let n = eqb-false v 0 (not-true (eqb v 0) (both (not (true && eqb v 0)) (ltb (v * 10 + d) (2 ^ 64)) e .0)) in
     let p : 1 ≤ v = one-at-least v n in
@@ -121,7 +124,7 @@ digit-known : (b : ℕ) → isDigit b ≡ true → (48 ≤ b) × (b ≤ 57)
 digit-known b e = let t = both (leb 48 b) (leb b 57) e in (leb-true 48 b (t .0), leb-true b 57 (t .1))
 
 sound-digit : (s : Scan) (b : ℕ) → takes (s .begun) (s .value) (b - 48) ≡ true → Sound (scan (s .count) (s .value * 10 + (b - 48)) true)
-sound-digit s b q = record { fresh = λ e. absurd (let z : _≡_ {A = ℕ} 0 1 = cc in omega arith); word = takes-below (s .begun) (s .value) (b - 48) q }
+sound-digit s b q = record { fresh = λ e. absurd (zero-not-one cc); word = takes-below (s .begun) (s .value) (b - 48) q }
 
 sound-end : (k : ℕ) → Sound (scan k 0 false)
 sound-end k = record { fresh = λ e. refl; word = omega arith }
@@ -156,8 +159,9 @@ pub written : (b : List ℕ) (s : Scan) → Sound s → fine s b ≡ true → pe
 written [] s o e = ap (λ (x : Bool). cond x (decimal (s .value)) [] ++ []) (not-true (s .begun) e)
 written (b ∷ bs) s o e = by (goes s b) (λ t g f. written bs t g f)
   where
-    by : (stepOf s b ≡ Off) ⊎ ((t : Scan) × (stepOf s b ≡ On t)) → ((t : Scan) → Sound t → fine t bs ≡ true → pending t ++ bs ≡ flat (t .count) (ended t bs)) → pending s ++ b ∷ bs ≡ flat (s .count) (ended s (b ∷ bs))
-    by (inl g) f = let n = sym (fine-off s b bs g) ∙ e in absurd (let z : _≡_ {A = ℕ} 0 1 = cc in omega arith)
+    by : (stepOf s b ≡ Off) ⊎ ((t : Scan) × (stepOf s b ≡ On t)) → ((t : Scan) → Sound t → fine t bs ≡ true → pending t ++ bs ≡ flat (t .count) (ended t bs))
+        → pending s ++ b ∷ bs ≡ flat (s .count) (ended s (b ∷ bs))
+    by (inl g) f = let n = sym (fine-off s b bs g) ∙ e in absurd (zero-not-one cc)
     by (inr (t, g)) f =
         written-step s t b bs o (went s b t g) (ended-on s b bs t g) (f t (sound-step s t b (went s b t g)) (sym (fine-on s b bs t g) ∙ e))
 
@@ -189,7 +193,8 @@ flat-line (y ∷ ys) x k more spaces last =
     let e : after k ≡ space = ap after (sym z) ∙ spaces 0 (omega arith) in
     let n : k + 1 + length ys + 1 ≡ k + length (y ∷ ys) + 1 = omega arith in
     let m : k + length (y ∷ ys) ≡ k + 1 + length ys = omega arith in
-    let rest = flat-line ys y (k + 1) more (λ i h. ap after (let q : k + 1 + i ≡ k + suc i = omega arith in q) ∙ spaces (suc i) (omega arith)) (ap after (sym m) ∙ last) in
+    let rest = flat-line ys y (k + 1) more (λ i h. ap after (let q : k + 1 + i ≡ k + suc i = omega arith in q) ∙ spaces (suc i) (omega arith))
+    (ap after (sym m) ∙ last) in
     (λ i. decimal x ++ e i ∷ rest i)
     ∙ sym (append-assoc (decimal x) (space ∷ lineOf (y ∷ ys)) (flat (k + 1 + length ys + 1) more))
     ∙ ap (λ (j : ℕ). (decimal x ++ space ∷ lineOf (y ∷ ys)) ++ flat j more) n
@@ -243,11 +248,23 @@ text-read r ws a =
     let few = a .few in
     let long : length all ≡ 7 + length ws = omega arith in
     let q : (length all - 7) / 5 ≡ r .quotes = omega arith in
-    let t : wholeLines (length all) ≡ true = (λ i. le-leb 7 (length all) (omega arith) i && (eq-eqb ((length all - 7) % 5) 0 (omega arith) i && le-leb ((length all - 7) / 5) 1000 (omega arith) i)) in
+    let t : wholeLines (length all) ≡ true =
+    (λ i. le-leb 7 (length all) (omega arith) i &&
+    (eq-eqb ((length all - 7) % 5) 0 (omega arith) i && le-leb ((length all - 7) / 5) 1000 (omega arith) i)) in
     ap (λ (b : List ℕ). cond (fine begin b) (readNumbers (ended begin b)) bad) (sym (text-flat r ws five))
     ∙ (λ i. cond (w .0 i) (readNumbers (w .1 i)) bad)
     ∙ (λ i. cond (t i && le-leb (r .buckets * r .«spread_states») 27 (a .states) i) (asked (requestOf all) ws) bad)
-    ∙ (λ i. asked (record { tick = r .tick; buckets = r .buckets; «spread_states» = r .«spread_states»; least = r .least; gap = r .gap; start = r .start; end = r .end; quotes = q i }) ws)
+    ∙ (λ i. asked
+    (record {
+      tick = r .tick;
+      buckets = r .buckets;
+      «spread_states» = r .«spread_states»;
+      least = r .least;
+      gap = r .gap;
+      start = r .start;
+      end = r .end;
+      quotes = q i;
+    }) ws)
 
 -- what is read as a request is the text of that request, which is admissible
 pub read-text : (b : List ℕ) (r : Request) (ws : List ℕ) → readText b ≡ asked r ws → (textOf r ws ≡ b) × Admissible r ws
@@ -280,18 +297,18 @@ read-text b r ws e = go (fine begin b) refl (wholeLines (length (ended begin b))
         let q : y ≡ ws = cc in
         subst (λ (z : Request). (textOf z ws ≡ b) × Admissible z ws) p (subst (λ (z : List ℕ). (textOf x z ≡ b) × Admissible x z) q h)
 
-    go : (f : Bool) → fine begin b ≡ f → (t : Bool) → (wholeLines (length (ended begin b)) && fewStates (getD (ended begin b) 1 0) (getD (ended begin b) 2 0)) ≡ t
+    go : (f : Bool) → fine begin b ≡ f → (t : Bool)
+        → (wholeLines (length (ended begin b)) && fewStates (getD (ended begin b) 1 0) (getD (ended begin b) 2 0)) ≡ t
         → cond f (cond t (asked (requestOf (ended begin b)) (drop 7 (ended begin b))) bad) bad ≡ asked r ws → (textOf r ws ≡ b) × Admissible r ws
     go true hf true ht g = same (requestOf (ended begin b)) (drop 7 (ended begin b)) g (known hf ht)
-    go true hf false ht g = absurd (let z : _≡_ {A = ℕ} 0 1 = cc in omega arith)
-    go false hf t ht g = absurd (let z : _≡_ {A = ℕ} 0 1 = cc in omega arith)
+    go true hf false ht g = absurd (zero-not-one cc)
+    go false hf t ht g = absurd (zero-not-one cc)
 
 -- bad input is the text of nothing admissible
 pub read-bad : (b : List ℕ) → readText b ≡ bad → (r : Request) (ws : List ℕ) → Admissible r ws → textOf r ws ≡ b → ⊥
 read-bad b e r ws a h =
     let n : asked r ws ≡ bad = sym (text-read r ws a) ∙ ap readText h ∙ e in
-    let z : _≡_ {A = ℕ} 0 1 = cc in
-    omega arith
+    zero-not-one cc
 
 -- a text has one reading
 pub text-once : (r : Request) (ws : List ℕ) (q : Request) (vs : List ℕ) → Admissible r ws → Admissible q vs → textOf r ws ≡ textOf q vs → (r ≡ q) × (ws ≡ vs)

@@ -40,16 +40,35 @@ quotes-longest (suc q) (a ∷ b ∷ []) w h = absurd (omega arith)
 quotes-longest (suc q) (a ∷ b ∷ c ∷ []) w h = absurd (omega arith)
 quotes-longest (suc q) (a ∷ b ∷ c ∷ d ∷ []) w h = absurd (omega arith)
 quotes-longest (suc q) (a ∷ b ∷ c ∷ d ∷ e ∷ ws) w h =
-    omega
-    (arith, length-append (lineOf (a ∷ b ∷ c ∷ d ∷ e ∷ [])) (quoteLines q ws), line-length (b ∷ c ∷ d ∷ e ∷ []) a, quotes-longest q ws (w .1 .1 .1 .1 .1) (omega arith), decimal-word a (w .0), decimal-word b (w .1 .0), decimal-word c (w .1 .1 .0), decimal-word d (w .1 .1 .1 .0), decimal-word e (w .1 .1 .1 .1 .0))
+    omega (
+      arith,
+      length-append (lineOf (a ∷ b ∷ c ∷ d ∷ e ∷ [])) (quoteLines q ws),
+      line-length (b ∷ c ∷ d ∷ e ∷ []) a,
+      quotes-longest q ws (w .1 .1 .1 .1 .1) (omega arith),
+      decimal-word a (w .0),
+      decimal-word b (w .1 .0),
+      decimal-word c (w .1 .1 .0),
+      decimal-word d (w .1 .1 .1 .0),
+      decimal-word e (w .1 .1 .1 .1 .0),
+    )
 
 -- the longest text
 pub text-longest : (r : Request) (ws : List ℕ) → Admissible r ws → length (textOf r ws) ≤ 105128
 text-longest r ws a =
     let w = a .numbers in
     let few = a .few in
-    omega
-    (arith, length-append (lineOf (firstLine r)) (quoteLines (r .quotes) ws), line-length (r .buckets ∷ r .«spread_states» ∷ r .least ∷ r .gap ∷ r .start ∷ r .end ∷ []) (r .tick), quotes-longest (r .quotes) ws (w .1 .1 .1 .1 .1 .1 .1) (a .five), product-digits (r .buckets) (r .«spread_states») (w .1 .0) (w .1 .1 .0) (a .states), decimal-word (r .tick) (w .0), decimal-word (r .least) (w .1 .1 .1 .0), decimal-word (r .gap) (w .1 .1 .1 .1 .0), decimal-word (r .start) (w .1 .1 .1 .1 .1 .0), decimal-word (r .end) (w .1 .1 .1 .1 .1 .1 .0))
+    omega (
+      arith,
+      length-append (lineOf (firstLine r)) (quoteLines (r .quotes) ws),
+      line-length (r .buckets ∷ r .«spread_states» ∷ r .least ∷ r .gap ∷ r .start ∷ r .end ∷ []) (r .tick),
+      quotes-longest (r .quotes) ws (w .1 .1 .1 .1 .1 .1 .1) (a .five),
+      product-digits (r .buckets) (r .«spread_states») (w .1 .0) (w .1 .1 .0) (a .states),
+      decimal-word (r .tick) (w .0),
+      decimal-word (r .least) (w .1 .1 .1 .0),
+      decimal-word (r .gap) (w .1 .1 .1 .1 .0),
+      decimal-word (r .start) (w .1 .1 .1 .1 .1 .0),
+      decimal-word (r .end) (w .1 .1 .1 .1 .1 .1 .0),
+    )
 
 -- a longer one is bad input
 pub too-long : (b : List ℕ) → 105128 < length b → readText b ≡ bad

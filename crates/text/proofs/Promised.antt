@@ -2,9 +2,9 @@
 use Prim.Native.Nat.{ℕ, _*_, _≤_}
 use mathlib.Core.Path.{_≡_, sym, _∙_, ap, subst}
 use mathlib.Core.List.{List}
-use native.Mathlib.Omega.{arith}
 use lib.ListN.{length, take}
 use lib.Seq.{sets}
+use Rattle.basics.proofs.Tests.{zero-not-one}
 use Rattle.text.specs.Text.{textOf, Admissible}
 use Rattle.text.specs.Reading.{Reading, asked, bad, readText, answerOf, recordingBy, ReadBy}
 use Rattle.text.specs.declared.Request.{Request}
@@ -15,10 +15,10 @@ use Rattle.text.proofs.Faithful.{text-read, read-text, read-bad, record
 -- the reading behind an answer
 pub reading-asked : (g : Reading) (q : Request) → Read.Request q ≡ answerOf g → (ws : List ℕ) × (g ≡ asked q ws)
 reading-asked (asked r ws) q e = (ws, let p : r ≡ q = cc in ap (λ (x : Request). asked x ws) p)
-reading-asked bad q e = absurd (let z : _≡_ {A = ℕ} 0 1 = cc in omega arith)
+reading-asked bad q e = absurd (zero-not-one cc)
 
 pub reading-bad : (g : Reading) → Read.Bad ≡ answerOf g → g ≡ bad
-reading-bad (asked r ws) e = absurd (let z : _≡_ {A = ℕ} 0 1 = cc in omega arith)
+reading-bad (asked r ws) e = absurd (zero-not-one cc)
 reading-bad bad e = λ i. bad
 
 module _ (b before : List ℕ) (left : List ℕ) where
@@ -30,7 +30,8 @@ module _ (b before : List ℕ) (left : List ℕ) where
       go : (ws : List ℕ) × (readText b ≡ asked q ws) → (textOf q (take (5 * q .quotes) left) ≡ b) × Admissible q (take (5 * q .quotes) left)
       go (ws, e) =
           let t = read-text b q ws e in
-          let f : take (5 * q .quotes) left ≡ ws = ap (take (5 * q .quotes)) (r .recording ∙ ap (λ (g : Reading). recordingBy g before) e) ∙ recording-front q ws before (t .1) h in
+          let f : take (5 * q .quotes) left ≡ ws =
+          ap (take (5 * q .quotes)) (r .recording ∙ ap (λ (g : Reading). recordingBy g before) e) ∙ recording-front q ws before (t .1) h in
           subst (λ (vs : List ℕ). (textOf q vs ≡ b) × Admissible q vs) (sym f) t
 
   -- bad input: no admissible request has this text, and the recording is as it was
@@ -40,7 +41,8 @@ module _ (b before : List ℕ) (left : List ℕ) where
       (read-bad b e, r .recording ∙ ap (λ (g : Reading). recordingBy g before) e)
 
   -- the text of an admissible request is answered by it, and its words are stored
-  pub request-answer : (q : Request) (ws : List ℕ) (x : Read) → Admissible q ws → textOf q ws ≡ b → ReadBy (readText b) before x left → (x ≡ Read.Request q) × (left ≡ sets before 0 ws)
+  pub request-answer : (q : Request) (ws : List ℕ) (x : Read) → Admissible q ws → textOf q ws ≡ b → ReadBy (readText b) before x left
+      → (x ≡ Read.Request q) × (left ≡ sets before 0 ws)
   request-answer q ws x a e r =
       let g : readText b ≡ asked q ws = ap readText (sym e) ∙ text-read q ws a in
       (r .answer ∙ ap answerOf g, r .recording ∙ ap (λ (y : Reading). recordingBy y before) g)

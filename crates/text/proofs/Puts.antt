@@ -39,9 +39,11 @@ put-last before mid at j x xs p = put-both before mid (set mid j x) at j (j + 1)
 pub put-digit : (before : List ℕ) (at n : ℕ) → n < 10 → Put before at (decimal n) (at + 1) (set before at (48 + n))
 put-digit before at n h = subst (λ (l : List ℕ). Put before at l (at + 1) (set before at (48 + n))) (sym (decimal-one n h)) (put-one before at (48 + n))
 
-pub put-more : (before mid : List ℕ) (at j n : ℕ) → 10 ≤ n → Put before at (decimal (n / 10)) j mid → Put before at (decimal n) (j + 1) (set mid j (48 + n % 10))
+pub put-more : (before mid : List ℕ) (at j n : ℕ) → 10 ≤ n → Put before at (decimal (n / 10)) j mid
+    → Put before at (decimal n) (j + 1) (set mid j (48 + n % 10))
 put-more before mid at j n h p =
-    subst (λ (l : List ℕ). Put before at l (j + 1) (set mid j (48 + n % 10))) (sym (decimal-more n h)) (put-last before mid at j (48 + n % 10) (decimal (n / 10)) p)
+    subst (λ (l : List ℕ). Put before at l (j + 1) (set mid j (48 + n % 10))) (sym (decimal-more n h))
+    (put-last before mid at j (48 + n % 10) (decimal (n / 10)) p)
 
 pub length-one : (n : ℕ) → n < 10 → length (decimal n) ≡ 1
 length-one n h = ap length (decimal-one n h)
@@ -65,14 +67,17 @@ length-hex16 w = length-hex 16 w
 pub put-none : (before : List ℕ) (at w k : ℕ) → k ≡ 0 → Put before at (hexDigits k w) at before
 put-none before at w k e = subst (λ (j : ℕ). Put before at (hexDigits j w) at before) (sym e) (record { next-is = omega arith; stored = refl })
 
-pub put-hex-more : (before mid : List ℕ) (at j w k : ℕ) → 0 < k → Put before at (hexDigits (k - 1) (w / 16)) j mid → Put before at (hexDigits k w) (j + 1) (set mid j (hexDigit (w % 16)))
+pub put-hex-more : (before mid : List ℕ) (at j w k : ℕ) → 0 < k → Put before at (hexDigits (k - 1) (w / 16)) j mid
+    → Put before at (hexDigits k w) (j + 1) (set mid j (hexDigit (w % 16)))
 put-hex-more before mid at j w k h p =
     let e : suc (k - 1) ≡ k = omega arith in
-    subst (λ (m : ℕ). Put before at (hexDigits m w) (j + 1) (set mid j (hexDigit (w % 16)))) e (put-last before mid at j (hexDigit (w % 16)) (hexDigits (k - 1) (w / 16)) p)
+    subst (λ (m : ℕ). Put before at (hexDigits m w) (j + 1) (set mid j (hexDigit (w % 16)))) e
+    (put-last before mid at j (hexDigit (w % 16)) (hexDigits (k - 1) (w / 16)) p)
 
 -- ---- given bytes
 
-pub bytes-step : (out : List ℕ) (at i : ℕ) (bytes : List ℕ) → i < length bytes → sets (set out (at + i) (getD bytes i 0)) (at + (i + 1)) (drop (i + 1) bytes) ≡ sets out (at + i) (drop i bytes)
+pub bytes-step : (out : List ℕ) (at i : ℕ) (bytes : List ℕ) → i < length bytes
+    → sets (set out (at + i) (getD bytes i 0)) (at + (i + 1)) (drop (i + 1) bytes) ≡ sets out (at + i) (drop i bytes)
 bytes-step out at i bytes h =
     let e : at + (i + 1) ≡ suc (at + i) = omega arith in
     let f : i + 1 ≡ suc i = omega arith in

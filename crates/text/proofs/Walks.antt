@@ -9,7 +9,7 @@ use lib.Dec.{eqb}
 use lib.ListN.{length, getD, drop, set, drop-of-length-le}
 use lib.Seq.{sets, drop-cons, drop-nil}
 use borrow.Author.Tests.{eqb-true}
-use Rattle.basics.proofs.Tests.{both, le-or-lt}
+use Rattle.basics.proofs.Tests.{zero-not-one, both, le-or-lt}
 use Rattle.text.specs.Reading.{scan, after, isDigit, takes, stepOf, endedBy, ended, fineBy, fine, begin, numbersOf, kept, NumbersBy}
 use Rattle.text.specs.declared.Scan.{Scan}
 use Rattle.text.specs.declared.Step.{Step}
@@ -38,9 +38,10 @@ module _ (s : Scan) (b : ℕ) where
       other z f = cc
 
       never : Off ≡ On t → ⊥
-      never f = let n : _≡_ {A = ℕ} 0 1 = cc in omega arith
+      never f = zero-not-one cc
 
-      go : (d : Bool) → isDigit b ≡ d → (p : Bool) → takes (s .begun) (s .value) (b - 48) ≡ p → (q : Bool) → (s .begun && eqb b (after (s .count))) ≡ q → cond d (cond p (On digit-scan) Off) (cond q (On end-scan) Off) ≡ On t → Went s b t
+      go : (d : Bool) → isDigit b ≡ d → (p : Bool) → takes (s .begun) (s .value) (b - 48) ≡ p → (q : Bool) → (s .begun && eqb b (after (s .count))) ≡ q
+          → cond d (cond p (On digit-scan) Off) (cond q (On end-scan) Off) ≡ On t → Went s b t
       go true hd true hp q hq f = subst (Went s b) (other digit-scan f) (digit-read hd hp)
       go true hd false hp q hq f = absurd (never f)
       go false hd p hp true hq f =
@@ -79,16 +80,20 @@ module _ (s : Scan) (b : ℕ) (bs : List ℕ) where
           ap (λ (l : List ℕ). s .count + length l) (ended-on u f) ∙ omega arith
 
   pub stored-on : (l : List ℕ) (first : ℕ) (t : Scan) → stepOf s b ≡ On t
-      → sets (kept l first s t) (t .count - first) (drop (first - t .count) (ended t bs)) ≡ sets l (s .count - first) (drop (first - s .count) (ended s (b ∷ bs)))
+      → sets (kept l first s t) (t .count - first) (drop (first - t .count) (ended t bs)) ≡ sets l (s .count - first)
+      (drop (first - s .count) (ended s (b ∷ bs)))
   stored-on l first t e = go t (went s b t e) e
     where
-      early : (W : List ℕ) → s .count < first → sets l (s .count + 1 - first) (drop (first - (s .count + 1)) W) ≡ sets l (s .count - first) (drop (first - s .count) (s .value ∷ W))
+      early : (W : List ℕ) → s .count < first
+          → sets l (s .count + 1 - first) (drop (first - (s .count + 1)) W) ≡ sets l (s .count - first) (drop (first - s .count) (s .value ∷ W))
       early W h =
           let p : s .count + 1 - first ≡ s .count - first = omega arith in
           let q : suc (first - (s .count + 1)) ≡ first - s .count = omega arith in
           λ i. sets l (p i) (drop (q i) (s .value ∷ W))
 
-      late : (W : List ℕ) → first ≤ s .count → sets (set l (s .count - first) (s .value)) (s .count + 1 - first) (drop (first - (s .count + 1)) W) ≡ sets l (s .count - first) (drop (first - s .count) (s .value ∷ W))
+      late : (W : List ℕ) → first ≤ s .count
+          → sets (set l (s .count - first) (s .value)) (s .count + 1 - first) (drop (first - (s .count + 1)) W) ≡ sets l (s .count - first)
+          (drop (first - s .count) (s .value ∷ W))
       late W h =
           let p : s .count + 1 - first ≡ suc (s .count - first) = omega arith in
           let q : first - (s .count + 1) ≡ 0 = omega arith in
@@ -96,11 +101,17 @@ module _ (s : Scan) (b : ℕ) (bs : List ℕ) where
           (λ i. sets (set l (s .count - first) (s .value)) (p i) (drop (q i) W))
           ∙ ap (λ (k : ℕ). sets l (s .count - first) (drop k (s .value ∷ W))) r
 
-      by : (u : Scan) → u .begun ≡ false → (first ≤ s .count) ⊎ (s .count < first) → sets (kept l first s u) (s .count + 1 - first) (drop (first - (s .count + 1)) (ended u bs)) ≡ sets l (s .count - first) (drop (first - s .count) (s .value ∷ ended u bs))
-      by u f (inl h) = ap (λ (m : List ℕ). sets m (s .count + 1 - first) (drop (first - (s .count + 1)) (ended u bs))) (keep-set l first s u f h) ∙ late (ended u bs) h
-      by u f (inr h) = ap (λ (m : List ℕ). sets m (s .count + 1 - first) (drop (first - (s .count + 1)) (ended u bs))) (keep-early l first s u f h) ∙ early (ended u bs) h
+      by : (u : Scan) → u .begun ≡ false → (first ≤ s .count) ⊎ (s .count < first)
+          → sets (kept l first s u) (s .count + 1 - first) (drop (first - (s .count + 1)) (ended u bs)) ≡ sets l (s .count - first)
+          (drop (first - s .count) (s .value ∷ ended u bs))
+      by u f (inl h) = ap (λ (m : List ℕ). sets m (s .count + 1 - first) (drop (first - (s .count + 1)) (ended u bs))) (keep-set l first s u f h)
+          ∙ late (ended u bs) h
+      by u f (inr h) = ap (λ (m : List ℕ). sets m (s .count + 1 - first) (drop (first - (s .count + 1)) (ended u bs))) (keep-early l first s u f h)
+          ∙ early (ended u bs) h
 
-      go : (u : Scan) → Went s b u → stepOf s b ≡ On u → sets (kept l first s u) (u .count - first) (drop (first - u .count) (ended u bs)) ≡ sets l (s .count - first) (drop (first - s .count) (ended s (b ∷ bs)))
+      go : (u : Scan) → Went s b u → stepOf s b ≡ On u
+          → sets (kept l first s u) (u .count - first) (drop (first - u .count) (ended u bs)) ≡ sets l (s .count - first)
+          (drop (first - s .count) (ended s (b ∷ bs)))
       go u (digit-read p q) f = ap (λ (W : List ℕ). sets l (s .count - first) (drop (first - s .count) W)) (sym (ended-on u f))
       go u (number-ended p q) f =
           by u refl (le-or-lt first (s .count))
@@ -145,9 +156,12 @@ module _ (text : List ℕ) (first : ℕ) (before : List ℕ) where
     pub reached-off : i < length text → stepOf s (getD text i 0) ≡ Off → NumbersBy text first before Broken out
     reached-off h e =
         record {
-          answer = sym (ap (λ (x : Bool). cond x (All (s .count + length (ended s (drop i text)))) Broken) (ap (fine s) (rest-is text i h) ∙ fine-off s (getD text i 0) (drop (i + 1) text) e)) ∙ r .told;
+          answer =
+              sym (ap (λ (x : Bool). cond x (All (s .count + length (ended s (drop i text)))) Broken)
+              (ap (fine s) (rest-is text i h) ∙ fine-off s (getD text i 0) (drop (i + 1) text) e)) ∙ r .told;
           stored =
-              sym (no-more out (ended s (drop i text)) (s .count - first) (first - s .count) (ap (ended s) (rest-is text i h) ∙ ended-off s (getD text i 0) (drop (i + 1) text) e))
+              sym (no-more out (ended s (drop i text)) (s .count - first) (first - s .count)
+              (ap (ended s) (rest-is text i h) ∙ ended-off s (getD text i 0) (drop (i + 1) text) e))
               ∙ r .kept-so-far;
         }
 

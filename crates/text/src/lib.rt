@@ -2,6 +2,7 @@
 ghost use mathlib.Core.Path.{_≡_};
 ghost use Prim.Native.Nat.{_+_, _≤_, _<_, _^_};
 ghost use lib.ListN.{length};
+ghost use Rattle.basics.specs.Loan.{given, final};
 ghost use Rattle.text.specs.Text.{decimal};
 ghost use Rattle.text.specs.Written.{hexDigit, hexDigits, hex16, Put};
 ghost use Rattle.text.specs.Reading.{after, takes, digitStep, endStep, stepOf, kept, NumbersBy, wholeLines, fewStates, readText, ReadBy};
@@ -108,7 +109,7 @@ fn take_byte(s: Scan, b: u8) -> Step
 
 // Stores a number that ended in its place, counted from number `first` on, if there is one.
 fn keep(out: &mut [u64], first: usize, s: Scan, t: Scan)
-    ensures { λ _. ⌜ now (out .exit) ≡ kept (now (out .entry)) first s t ⌝ }
+    ensures { λ _. ⌜ final out ≡ kept (given out) first s t ⌝ }
 {
     if t.begun {
         return;
@@ -124,7 +125,7 @@ fn keep(out: &mut [u64], first: usize, s: Scan, t: Scan)
 
 // Reads all numbers of a text and stores them from number `first` on, as far as there is room.
 fn read_numbers(text: &[u8], first: usize, out: &mut [u64]) -> Numbers
-    ensures { λ r. ⌜ NumbersBy (now (text .entry)) first (now (out .entry)) r (now (out .exit)) ⌝ }
+    ensures { λ r. ⌜ NumbersBy (given text) first (given out) r (final out) ⌝ }
 {
     let mut s = Scan {
         count: 0,
@@ -169,7 +170,7 @@ fn few_states(n: u64, s: u64) -> bool
 
 // The request of a text, and the words of its quotes in the recording, as far as it has room; or bad input, and the recording as it was.
 pub fn read_text(text: &[u8], recording: &mut [u64]) -> Read
-    ensures { λ r. ⌜ ReadBy (readText (now (text .entry))) (now (recording .entry)) r (now (recording .exit)) ⌝ }
+    ensures { λ r. ⌜ ReadBy (readText (given text)) (given recording) r (final recording) ⌝ }
 {
     let mut head = [0u64; 7];
     let found = read_numbers(text, 0, &mut head);
@@ -197,7 +198,7 @@ pub fn read_text(text: &[u8], recording: &mut [u64]) -> Read
 
 pub fn put_number(out: &mut [u8], at: usize, n: u64) -> usize
     requires { ⌜ at + length (decimal n) ≤ length (now out) ⌝ }
-    ensures { λ r. ⌜ Put (now (out .entry)) at (decimal n) r (now (out .exit)) ⌝ }
+    ensures { λ r. ⌜ Put (given out) at (decimal n) r (final out) ⌝ }
 {
     if n < 10 {
         out[at] = (48 + n) as u8;
@@ -221,7 +222,7 @@ fn hex_digit(d: u64) -> u8
 // The last k hexadecimal digits.
 fn put_digits(out: &mut [u8], at: usize, w: u64, k: usize) -> usize
     requires { ⌜ at + k ≤ length (now out) ⌝ }
-    ensures { λ r. ⌜ Put (now (out .entry)) at (hexDigits k w) r (now (out .exit)) ⌝ }
+    ensures { λ r. ⌜ Put (given out) at (hexDigits k w) r (final out) ⌝ }
 {
     if k == 0 {
         return at;
@@ -233,14 +234,14 @@ fn put_digits(out: &mut [u8], at: usize, w: u64, k: usize) -> usize
 
 pub fn put_hex(out: &mut [u8], at: usize, w: u64) -> usize
     requires { ⌜ at + 16 ≤ length (now out) ⌝ }
-    ensures { λ r. ⌜ Put (now (out .entry)) at (hex16 w) r (now (out .exit)) ⌝ }
+    ensures { λ r. ⌜ Put (given out) at (hex16 w) r (final out) ⌝ }
 {
     put_digits(out, at, w, 16)
 }
 
 pub fn put_bytes(out: &mut [u8], at: usize, bytes: &[u8]) -> usize
     requires { ⌜ at + length (now bytes) ≤ length (now out) ⌝ }
-    ensures { λ r. ⌜ Put (now (out .entry)) at (now (bytes .entry)) r (now (out .exit)) ⌝ }
+    ensures { λ r. ⌜ Put (given out) at (given bytes) r (final out) ⌝ }
 {
     let mut i: usize = 0;
     while i < bytes.len() {

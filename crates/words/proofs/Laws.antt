@@ -4,9 +4,8 @@ use mathlib.Core.List.{List, [], _∷_, _++_}
 use Prim.Native.Nat.{ℕ, zero, suc, _+_, _*_, _-_, _/_, _%_, _<_, _≤_, _^_}
 use native.Mathlib.Nat.{div-add-mod', pow-suc, pow-le-pow-right}
 use native.Mathlib.Omega.{arith}
-use lib.ListN.{length, getD, take, drop, set, length-append}
+use lib.ListN.{length, getD, take, drop, set, length-append, drop-of-length-le}
 use lib.Seq.{sets, drop-cons, take-all, drop-drop, take-suc-set, take-suc}
-use lib.ListN.{drop-of-length-le}
 use Rattle.basics.proofs.Stores.{sets-append}
 use Rattle.words.specs.Words.{digits, value, bytesOf, wordsOf, wordAt}
 
@@ -28,7 +27,8 @@ length-bytes (w ∷ ws) = length-append (digits 8 w) (bytesOf ws) ∙ omega (ari
 -- ---- stores one after another
 
 -- a byte of a word, and those that are left
-pub put-step : (out : List ℕ) (at k x : ℕ) → k < 8 → sets (set out (at + k) (x % 256)) (at + (k + 1)) (digits (8 - (k + 1)) (x / 256)) ≡ sets out (at + k) (digits (8 - k) x)
+pub put-step : (out : List ℕ) (at k x : ℕ) → k < 8
+    → sets (set out (at + k) (x % 256)) (at + (k + 1)) (digits (8 - (k + 1)) (x / 256)) ≡ sets out (at + k) (digits (8 - k) x)
 put-step out at k x h =
     let e : 8 - k ≡ suc (8 - (k + 1)) = omega arith in
     let f : at + (k + 1) ≡ suc (at + k) = omega arith in
@@ -89,7 +89,8 @@ length-words zero bs = refl
 length-words (suc n) bs = ap suc (length-words n (drop 8 bs))
 
 -- a store of the next element brings a list that agrees up to i to one that agrees up to i + 1
-pub agree-step : {A : Type 0} (d : A) (t W : List A) (i : ℕ) → i < length t → i < length W → take i t ≡ take i W → take (i + 1) (set t i (getD W i d)) ≡ take (i + 1) W
+pub agree-step : {A : Type 0} (d : A) (t W : List A) (i : ℕ) → i < length t → i < length W → take i t ≡ take i W
+    → take (i + 1) (set t i (getD W i d)) ≡ take (i + 1) W
 agree-step d t W i h g e =
     ap (λ (j : ℕ). take j (set t i (getD W i d))) (let s : i + 1 ≡ suc i = omega arith in s)
     ∙ take-suc-set t i (getD W i d) h

@@ -47,8 +47,10 @@ digits-value (x ∷ xs) a =
 pub words-fit : (n : ℕ) (b : List ℕ) → AllBytes b → 8 * n ≤ length b → AllWords (wordsOf n b)
 words-fit zero b a h = tt
 words-fit (suc n) b a h =
-    let l : length (take 8 b) ≡ 8 = length-take-le 8 b (omega arith) in
-    (omega (arith, value-bound (take 8 b) (bytes-take 8 b a), ap (λ (k : ℕ). 256 ^ k) l), words-fit n (drop 8 b) (bytes-drop 8 b a) (omega (arith, length-drop 8 b)))
+    let l : length (take 8 b) ≡ 8 = length-take-le 8 b (omega arith) in (
+      omega (arith, value-bound (take 8 b) (bytes-take 8 b a), ap (λ (k : ℕ). 256 ^ k) l),
+      words-fit n (drop 8 b) (bytes-drop 8 b a) (omega (arith, length-drop 8 b)),
+    )
 
 empty : (b : List ℕ) → length b ≡ 0 → [] ≡ b
 empty [] e = refl
@@ -67,7 +69,8 @@ pub words-join : (m n : ℕ) (b : List ℕ) → wordsOf m b ++ wordsOf n (drop (
 words-join zero n b = ap (λ (k : ℕ). wordsOf k b) (let s : n ≡ 0 + n = omega arith in s)
 words-join (suc m) n b =
     let s : suc m + n ≡ suc (m + n) = omega arith in
-    let d : drop (8 * suc m) b ≡ drop (8 * m) (drop 8 b) = sym (drop-drop (8 * m) 8 b ∙ ap (λ (j : ℕ). drop j b) (let t : 8 + 8 * m ≡ 8 * suc m = omega arith in t)) in
+    let d : drop (8 * suc m) b ≡ drop (8 * m) (drop 8 b) =
+    sym (drop-drop (8 * m) 8 b ∙ ap (λ (j : ℕ). drop j b) (let t : 8 + 8 * m ≡ 8 * suc m = omega arith in t)) in
     ap (λ (r : List ℕ). value (take 8 b) ∷ (wordsOf m (drop 8 b) ++ wordsOf n r)) d
     ∙ ap (λ (r : List ℕ). value (take 8 b) ∷ r) (words-join m n (drop 8 b))
     ∙ sym (ap (λ (k : ℕ). wordsOf k b) s)

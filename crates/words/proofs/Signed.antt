@@ -10,6 +10,7 @@ use mir.Syntax.{w64}
 use mir.Val.{SFits, Fits, toZ, ofZ}
 use mir.Facts.{toZ-ofZ, toZ-pos}
 use borrow.Author.Tests.{le-ltb}
+use Rattle.basics.proofs.Tests.{zero-not-one}
 
 -- −1 − z, of a z below 0
 abbrev under : ℤ → ℕ
@@ -25,7 +26,8 @@ pub record Below (z : ℤ) : Type 0 where
   pub is : 18446744073709551615 - under z ≡ ofZ w64 z
 
 pub below : (z : ℤ) → SFits w64 z → ltZ (toZ w64 (ofZ w64 z)) (pos 0) ≡ true → Below z
-below (pos n) s t = let e : ltZ (toZ w64 n) (pos 0) ≡ false = rw (toZ-pos w64 {n = n} (s .sfits)) (le-ltb n 0 (omega arith)) in absurd (let f : _≡_ {A = Bool} true false = sym t ∙ e in (let z : _≡_ {A = ℕ} 0 1 = cc in omega arith))
+below (pos n) s t = let e : ltZ (toZ w64 n) (pos 0) ≡ false = rw (toZ-pos w64 {n = n} (s .sfits)) (le-ltb n 0 (omega arith)) in
+    absurd (let f : _≡_ {A = Bool} true false = sym t ∙ e in (zero-not-one cc))
 below (negsuc k) s t = record { turn = rw (toZ-ofZ s) (turned k); small = s .sfits; is = omega (arith, s .sfits) }
 
 module _ (z : ℤ) (b : Below z) where
@@ -46,7 +48,7 @@ pub above : (z : ℤ) → SFits w64 z → ltZ (toZ w64 (ofZ w64 z)) (pos 0) ≡ 
 above (pos n) s t = rw (toZ-pos w64 {n = n} (s .sfits)) ((tt, record { fits = omega (arith, s .sfits) }), refl)
 above (negsuc k) s t =
     let e : ltZ (toZ w64 (ofZ w64 (negsuc k))) (pos 0) ≡ true = rw (toZ-ofZ s) in
-    absurd (let f : _≡_ {A = Bool} true false = sym e ∙ t in (let z : _≡_ {A = ℕ} 0 1 = cc in omega arith))
+    absurd (let f : _≡_ {A = Bool} true false = sym e ∙ t in (zero-not-one cc))
 
 -- a word from 2^63 on is a number below 0
 module _ (w : ℕ) (f : w < 2 ^ 64) (h : 2 ^ 63 ≤ w) where

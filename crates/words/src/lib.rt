@@ -1,12 +1,12 @@
 // Words of 64 bits as little-endian bytes, eight to a word, and tables of them. Inner functions: for the crates above, not for users. Where one has a `requires`, each caller proves it.
 ghost use mathlib.Core.Path.{_≡_};
 ghost use Prim.Native.Nat.{_+_, _*_, _≤_, _<_};
-ghost use lib.ListN.{length, getD, take, drop};
+ghost use lib.ListN.{length, getD, drop, set};
 ghost use lib.Seq.{sets};
 ghost use mathlib.Core.List.{map};
 ghost use lib.IntN.{pos};
-ghost use lib.ListN.{set};
-ghost use Rattle.words.specs.Words.{digits, value, bytesOf, wordsOf, wordAt, twos, untwos, WordOf};
+ghost use Rattle.basics.specs.Loan.{given, final};
+ghost use Rattle.words.specs.Words.{digits, bytesOf, wordsOf, wordAt, twos, untwos, WordOf};
 
 fn wide(b: u8) -> u64
     ensures { λ r. ⌜ (r ≡ b) × (r < 256) ⌝ }
@@ -16,7 +16,7 @@ fn wide(b: u8) -> u64
 
 pub fn put_word(out: &mut [u8], at: usize, w: u64)
     requires { ⌜ at + 8 ≤ length (now out) ⌝ }
-    ensures { λ _. ⌜ now (out .exit) ≡ sets (now (out .entry)) at (digits 8 w) ⌝ }
+    ensures { λ _. ⌜ final out ≡ sets (given out) at (digits 8 w) ⌝ }
 {
     let mut x = w;
     let mut k: usize = 0;
@@ -29,7 +29,7 @@ pub fn put_word(out: &mut [u8], at: usize, w: u64)
 
 pub fn get_word(bytes: &[u8], at: usize) -> u64
     requires { ⌜ at + 8 ≤ length (now bytes) ⌝ }
-    ensures { λ r. ⌜ r ≡ wordAt (now (bytes .entry)) at ⌝ }
+    ensures { λ r. ⌜ r ≡ wordAt (given bytes) at ⌝ }
 {
     let mut w: u64 = 0;
     let mut k: usize = 8;
@@ -43,7 +43,7 @@ pub fn get_word(bytes: &[u8], at: usize) -> u64
 // A whole table, from an offset on.
 pub fn put_table(out: &mut [u8], at: usize, t: &[u64])
     requires { ⌜ at + 8 * length (now t) ≤ length (now out) ⌝ }
-    ensures { λ _. ⌜ now (out .exit) ≡ sets (now (out .entry)) at (bytesOf (now (t .entry))) ⌝ }
+    ensures { λ _. ⌜ final out ≡ sets (given out) at (bytesOf (given t)) ⌝ }
 {
     let mut i: usize = 0;
     while i < t.len() {
@@ -54,7 +54,7 @@ pub fn put_table(out: &mut [u8], at: usize, t: &[u64])
 
 pub fn get_table(bytes: &[u8], at: usize, t: &mut [u64])
     requires { ⌜ at + 8 * length (now t) ≤ length (now bytes) ⌝ }
-    ensures { λ _. ⌜ now (t .exit) ≡ wordsOf (length (now (t .entry))) (drop at (now (bytes .entry))) ⌝ }
+    ensures { λ _. ⌜ final t ≡ wordsOf (length (given t)) (drop at (given bytes)) ⌝ }
 {
     let mut i: usize = 0;
     while i < t.len() {
@@ -66,7 +66,7 @@ pub fn get_table(bytes: &[u8], at: usize, t: &mut [u64])
 // An element of either sign as its word, and a word as the element.
 pub fn word_of(t: &[i64], i: usize) -> u64
     requires { ⌜ i < length (now t) ⌝ }
-    ensures { λ r. ⌜ WordOf r (getD (now (t .entry)) i (pos 0)) ⌝ }
+    ensures { λ r. ⌜ WordOf r (getD (given t) i (pos 0)) ⌝ }
 {
     let x = t[i];
     if x < 0 {
@@ -77,7 +77,7 @@ pub fn word_of(t: &[i64], i: usize) -> u64
 
 pub fn set_word(t: &mut [i64], i: usize, w: u64)
     requires { ⌜ i < length (now t) ⌝ }
-    ensures { λ _. ⌜ now (t .exit) ≡ set (now (t .entry)) i (untwos w) ⌝ }
+    ensures { λ _. ⌜ final t ≡ set (given t) i (untwos w) ⌝ }
 {
     if w < 9223372036854775808 {
         t[i] = w as i64;
@@ -88,7 +88,7 @@ pub fn set_word(t: &mut [i64], i: usize, w: u64)
 
 pub fn put_totals(out: &mut [u8], at: usize, t: &[i64])
     requires { ⌜ at + 8 * length (now t) ≤ length (now out) ⌝ }
-    ensures { λ _. ⌜ now (out .exit) ≡ sets (now (out .entry)) at (bytesOf (map twos (now (t .entry)))) ⌝ }
+    ensures { λ _. ⌜ final out ≡ sets (given out) at (bytesOf (map twos (given t))) ⌝ }
 {
     let mut i: usize = 0;
     while i < t.len() {
@@ -99,7 +99,7 @@ pub fn put_totals(out: &mut [u8], at: usize, t: &[i64])
 
 pub fn get_totals(bytes: &[u8], at: usize, t: &mut [i64])
     requires { ⌜ at + 8 * length (now t) ≤ length (now bytes) ⌝ }
-    ensures { λ _. ⌜ now (t .exit) ≡ map untwos (wordsOf (length (now (t .entry))) (drop at (now (bytes .entry)))) ⌝ }
+    ensures { λ _. ⌜ final t ≡ map untwos (wordsOf (length (given t)) (drop at (given bytes))) ⌝ }
 {
     let mut i: usize = 0;
     while i < t.len() {

@@ -1,13 +1,11 @@
 use mathlib.Core.Bool.{true, false}
-use lib.ListN.{getD}
+use lib.ListN.{getD, drop}
 use lib.Dec.{eqb}
-use Rattle.words.specs.Words.{wordAt}
+use Rattle.words.specs.Words.{wordAt, wordsOf}
 use Prim.Native.Nat.{_-_, _*_, _≤_}
 use mathlib.Core.Path.{_≡_, sym, _∙_}
-use lib.ListN.{drop}
 use native.Mathlib.Omega.{arith}
 use borrow.Author.Tests.{eq-eqb, ne-eqb}
-use Rattle.words.specs.Words.{wordsOf}
 use Rattle.layout.specs.Layout.{headerIn, sameWords}
 use Rattle.layout.proofs.Headers.{same-start, same-step, same-end}
 use Rattle.layout.proofs.same_words.Statement.{statement}

@@ -5,22 +5,18 @@ use borrow.Author.Needs.{needs}
 use Rattle.lines.proofs.put_bits.Statement.{statement}
 use Rattle.lines.proofs.put_bits.Tie as tie
 
-put-hex-requires : tie.Need-put-hex-requires
-put-hex-requires c κs = search needs
-
-slice-aggregate-put-bytes : tie.Need-slice-aggregate-put-bytes
-slice-aggregate-put-bytes c = search needs
-
 put-bytes-requires : tie.Need-put-bytes-requires
-put-bytes-requires c κs = omega (arith, length-hex16 (c .before .before .before .before .before .before .before .args .w), c .before .before .before .before .put-hex .ensures .next-is)
-
-same-length : tie.Need-same-length
-same-length c = search needs
+put-bytes-requires c κs =
+    let at-put-hex : tie.After-put-hex = search in
+    let at-start : tie.Start = search in
+    omega (arith, length-hex16 (at-start .args .w), at-put-hex .put-hex .ensures .next-is)
 
 returns : tie.Need-returns
-returns c = both (bits-in _ (c .before .before .before .before .before .before .before .put-hex .ensures)) (bytes-in (c .before .before .put-bytes .ensures))
+returns c =
+    let at-put-hex : tie.After-put-hex = search in
+    both (bits-in _ (at-put-hex .put-hex .ensures)) (bytes-in (c .before .before .put-bytes .ensures))
 
 pub put-bits-spec : {M : Type 1} → statement M
 put-bits-spec =
     tie.close
-    (tie.spec put-hex-requires slice-aggregate-put-bytes put-bytes-requires same-length returns)
+    (tie.spec (λ c κs. search needs) (λ c. search needs) put-bytes-requires (λ c. search needs) returns)

@@ -19,20 +19,15 @@ loop-holds c = (omega arith, omega arith, no-rows (c .before .before .args .mode
 put-row-requires : tie.Need-put-row-requires Inv-loop μ-loop
 put-row-requires c κs = (omega arith, omega arith)
 
-add-i : tie.Need-add-i Inv-loop μ-loop
-add-i c = omega arith
-
-loop-less : tie.Need-loop-less Inv-loop μ-loop
-loop-less c = omega arith
-
 loop-again : tie.Need-loop-again Inv-loop μ-loop
-loop-again c = (omega arith, omega arith, row-more _ _ (c .before .before .before .before .before .loop .inv .2) (c .before .before .put-row .ensures))
-
-same-length : tie.Need-same-length Inv-loop μ-loop
-same-length c = omega arith
+loop-again c =
+    let at-loop : tie.At-loop Inv-loop μ-loop = search in
+    (omega arith, omega arith, row-more _ _ (at-loop .loop .inv .2) (c .before .before .put-row .ensures))
 
 returns : tie.Need-returns Inv-loop μ-loop
-returns c = let e : c .before .loop .i ≡ c .before .before .before .before .args .n = omega arith in rw (← e) (c .before .loop .inv .2)
+returns c =
+    let at-start : tie.Start Inv-loop μ-loop = search in
+    let e : c .before .loop .i ≡ at-start .args .n = omega arith in rw (← e) (c .before .loop .inv .2)
 
 pub put-rows-spec : {M : Type 1} → statement M
 put-rows-spec =
@@ -42,8 +37,8 @@ put-rows-spec =
     μ-loop
     loop-holds
     put-row-requires
-    add-i
-    loop-less
+    (λ c. omega arith)
+    (λ c. omega arith)
     loop-again
-    same-length
+    (λ c. omega arith)
     returns)

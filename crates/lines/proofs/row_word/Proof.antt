@@ -6,24 +6,11 @@ use borrow.Author.Needs.{needs}
 use Rattle.lines.proofs.row_word.Statement.{statement}
 use Rattle.lines.proofs.row_word.Tie as tie
 
-mul-at : tie.Need-mul-at
-mul-at c = search needs
-
-add-at : tie.Need-add-at
-add-at c = search needs
-
-mul-result : tie.Need-mul-result
-mul-result c = search needs
-
-shared-slice-read-result : tie.Need-shared-slice-read-result
-shared-slice-read-result c = search needs
-
-returns : tie.Need-returns
-returns c = search needs
-
 returns-2 : tie.Need-returns-2
-returns-2 c = let h : length (c .before .args .model .now) ≤ 7 * c .before .args .i + c .before .args .k = omega arith in sym (List·getD-eq-default (c .before .args .model .now) 0 h)
+returns-2 c =
+    let h : length (c .before .args .model .now) ≤ 7 * c .before .args .i + c .before .args .k = omega arith in
+    sym (List·getD-eq-default (c .before .args .model .now) 0 h)
 
 pub row-word-spec : {M : Type 1} → statement M
 row-word-spec =
-    tie.close (tie.spec mul-at add-at mul-result shared-slice-read-result returns returns-2)
+    tie.close (tie.spec (λ c. search needs) (λ c. search needs) (λ c. search needs) (λ c. search needs) (λ c. search needs) returns-2)

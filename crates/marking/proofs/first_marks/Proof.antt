@@ -16,7 +16,9 @@ loop-holds : tie.Need-loop-holds Inv-loop μ-loop
 loop-holds c = (omega arith, stored-none 0 _ _)
 
 first-mark-requires : tie.Need-first-mark-requires Inv-loop μ-loop
-first-mark-requires c κs = (c .before .before .before .before .before .pre .0, omega arith)
+first-mark-requires c κs =
+    let at-start : tie.Start Inv-loop μ-loop = search in
+    (at-start .pre .0, omega arith)
 
 mul-marks : tie.Need-mul-marks Inv-loop μ-loop
 mul-marks c = omega (arith, c .before .before .loop .inv .1 .same-length)
@@ -24,20 +26,15 @@ mul-marks c = omega (arith, c .before .before .loop .inv .1 .same-length)
 slice-write-marks : tie.Need-slice-write-marks Inv-loop μ-loop
 slice-write-marks c = omega (arith, c .before .before .loop .inv .1 .same-length)
 
-add-x : tie.Need-add-x Inv-loop μ-loop
-add-x c = omega arith
-
-loop-less : tie.Need-loop-less Inv-loop μ-loop
-loop-less c = omega arith
-
 loop-again : tie.Need-loop-again Inv-loop μ-loop
 loop-again c =
-    let a = c .before .before .before .before .before .before .args in
-    let l = c .before .before .loop in
-    (omega arith, stored-more 0 (firstMark (a .n) (a .least) (now (a .stay)) (now (a .moved))) (l .x) (c .first-mark .result) (now (a .marks)) (l .marks) (l .inv .1) (omega (arith, l .inv .1 .same-length)) (c .first-mark .ensures))
-
-same-length : tie.Need-same-length Inv-loop μ-loop
-same-length c = c .before .loop .inv .1 .same-length
+    let at-start : tie.Start Inv-loop μ-loop = search in
+    let a = at-start .args in
+    let l = c .before .before .loop in (
+      omega arith,
+      stored-more 0 (firstMark (a .n) (a .least) (now (a .stay)) (now (a .moved))) (l .x) (c .first-mark .result) (now (a .marks)) (l .marks) (l .inv .1)
+          (omega (arith, l .inv .1 .same-length)) (c .first-mark .ensures),
+    )
 
 returns : tie.Need-returns Inv-loop μ-loop
 returns c =
@@ -54,8 +51,8 @@ first-marks-spec =
     first-mark-requires
     mul-marks
     slice-write-marks
-    add-x
-    loop-less
+    (λ c. omega arith)
+    (λ c. omega arith)
     loop-again
-    same-length
+    (λ c. c .before .loop .inv .1 .same-length)
     returns)

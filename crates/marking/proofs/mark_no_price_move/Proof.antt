@@ -15,14 +15,17 @@ abbrev μ-loop : tie.MeasureT-loop
 μ-loop stay moved n least marks₀ marks = waiting n marks
 
 first-marks-requires : tie.Need-first-marks-requires Inv-loop μ-loop
-first-marks-requires c κs = (c .before .before .before .before .pre .0, omega arith)
+first-marks-requires c κs =
+    let at-start : tie.Start Inv-loop μ-loop = search in
+    (at-start .pre .0, omega arith)
 
 loop-holds : tie.Need-loop-holds Inv-loop μ-loop
 loop-holds c = (refl, none)
 
 turn-requires : tie.Need-turn-requires Inv-loop μ-loop
 turn-requires c κs =
-    let f = c .before .before .before .before .before .before .before .before .before .pre .0 .stay-cells in
+    let at-start : tie.Start Inv-loop μ-loop = search in
+    let f = at-start .pre .0 .stay-cells in
     (omega arith, omega arith)
 
 loop-less : tie.Need-loop-less Inv-loop μ-loop
@@ -30,18 +33,20 @@ loop-less c = c .before .before .before .turn .ensures .fewer (c .if1 .taken)
 
 loop-again : tie.Need-loop-again Inv-loop μ-loop
 loop-again c =
-    let l = c .before .before .before .before .before .loop in
+    let at-loop : tie.At-loop Inv-loop μ-loop = search in
+    let l = at-loop .loop in
     (omega arith, led-led _ _ _ _ _ (l .inv .1) (c .before .before .before .turn .ensures .led))
-
-same-length : tie.Need-same-length Inv-loop μ-loop
-same-length c = omega arith
 
 returns : tie.Need-returns Inv-loop μ-loop
 returns c =
-    let a = c .before .before .before .before .before .before .before .before .before .before .before .before .before .args in
-    let l = c .before .before .before .before .before .loop in
+    let at-loop : tie.At-loop Inv-loop μ-loop = search in
+    let at-first-marks : tie.After-first-marks Inv-loop μ-loop = search in
+    let at-start : tie.Start Inv-loop μ-loop = search in
+    let a = at-start .args in
+    let l = at-loop .loop in
     let t = c .before .before .before .turn .ensures in
-    all-marked (a .n) (a .least) (now (a .stay)) (now (a .moved)) (now (a .marks)) _ _ (omega arith) (c .before .before .before .before .before .before .before .before .first-marks .ensures) (led-led _ _ _ _ _ (l .inv .1) (t .led)) (t .closed (c .if1 .left))
+    all-marked (a .n) (a .least) (now (a .stay)) (now (a .moved)) (now (a .marks)) _ _ (omega arith) (at-first-marks .first-marks .ensures)
+    (led-led _ _ _ _ _ (l .inv .1) (t .led)) (t .closed (c .if1 .left))
 
 pub mark-no-price-move-spec : {M : Type 1} → statement M
 mark-no-price-move-spec =
@@ -54,5 +59,5 @@ mark-no-price-move-spec =
     turn-requires
     loop-less
     loop-again
-    same-length
+    (λ c. omega arith)
     returns)

@@ -8,22 +8,25 @@ use Rattle.marking.proofs.observations_of.Tie as tie
 
 row-sum-requires : tie.Need-row-sum-requires
 row-sum-requires c κs =
-    let a = c .before .before .args in
+    let at-start : tie.Start = search in
+    let a = at-start .args in
     let r = row-in (a .x) (a .n) (a .n) (omega arith) in
-    let f = row-fits (a .n) (now (a .stay)) (now (a .moved)) (a .x) (c .before .before .pre .0) (c .before .before .pre .1) in
+    let f = row-fits (a .n) (now (a .stay)) (now (a .moved)) (a .x) (at-start .pre .0) (at-start .pre .1) in
     (omega arith, omega arith)
 
 row-sum-requires-2 : tie.Need-row-sum-requires-2
 row-sum-requires-2 c κs =
-    let a = c .before .before .before .args in
+    let at-start : tie.Start = search in
+    let a = at-start .args in
     let r = row-in (a .x) (a .n) (a .n) (omega arith) in
-    let f = row-fits (a .n) (now (a .stay)) (now (a .moved)) (a .x) (c .before .before .before .pre .0) (c .before .before .before .pre .1) in
+    let f = row-fits (a .n) (now (a .stay)) (now (a .moved)) (a .x) (at-start .pre .0) (at-start .pre .1) in
     (omega arith, omega arith)
 
 add-result : tie.Need-add-result
 add-result c =
-    let a = c .before .before .before .before .args in
-    let f = row-fits (a .n) (now (a .stay)) (now (a .moved)) (a .x) (c .before .before .before .before .pre .0) (c .before .before .before .before .pre .1) in
+    let at-start : tie.Start = search in
+    let a = at-start .args in
+    let f = row-fits (a .n) (now (a .stay)) (now (a .moved)) (a .x) (at-start .pre .0) (at-start .pre .1) in
     omega arith
 
 returns : tie.Need-returns

@@ -20,24 +20,25 @@ look-at-requires c κs =
     let p = c .before .before .loop .inv .1 .sized in
     (omega arith, omega arith, omega arith)
 
-add-x : tie.Need-add-x Inv-loop μ-loop
-add-x c = omega arith
-
-loop-less : tie.Need-loop-less Inv-loop μ-loop
-loop-less c = omega arith
-
 loop-again : tie.Need-loop-again Inv-loop μ-loop
 loop-again c =
-    let a = c .before .before .before .before .before .before .before .before .before .args in
-    let l = c .before .before .before .before .before .before .loop in
+    let at-loop : tie.At-loop Inv-loop μ-loop = search in
+    let at-start : tie.Start Inv-loop μ-loop = search in
+    let a = at-start .args in
+    let l = at-loop .loop in
     let look = c .before .before .before .look-at in
     ⊎-elim
-    (λ w. (omega arith, rw (w .1) (pass-freed (a .n) (now (a .stay)) (now (a .marks)) (l .marks) _ (l .freed) (l .x) (l .inv .1) (omega arith) (omega arith) (look .ensures .0 (w .0 .taken)))))
-    (λ w. (omega arith, rw (w .1) (pass-left (a .n) (now (a .stay)) (now (a .marks)) (l .marks) _ (l .freed) (l .x) (l .inv .1) (look .ensures .1 (w .0 .left)))))
+    (λ w. (
+      omega arith,
+      rw (w .1)
+          (pass-freed (a .n) (now (a .stay)) (now (a .marks)) (l .marks) _ (l .freed) (l .x) (l .inv .1) (omega arith) (omega arith)
+          (look .ensures .0 (w .0 .taken))),
+    ))
+    (λ w. (
+      omega arith,
+      rw (w .1) (pass-left (a .n) (now (a .stay)) (now (a .marks)) (l .marks) _ (l .freed) (l .x) (l .inv .1) (look .ensures .1 (w .0 .left))),
+    ))
     (c .if1 .came)
-
-same-length : tie.Need-same-length Inv-loop μ-loop
-same-length c = c .before .loop .inv .1 .sized
 
 returns : tie.Need-returns Inv-loop μ-loop
 returns c = pass-end _ _ _ _ _ _ (c .before .loop .inv .1) (omega arith)
@@ -50,8 +51,8 @@ turn-spec =
     μ-loop
     loop-holds
     look-at-requires
-    add-x
-    loop-less
+    (λ c. omega arith)
+    (λ c. omega arith)
     loop-again
-    same-length
+    (λ c. c .before .loop .inv .1 .sized)
     returns)

@@ -6,14 +6,8 @@ use Rattle.mirrored.proofs.are_opposite.Tie as tie
 returns : tie.Need-returns
 returns c = rw (eq-eqb (c .before .args .a) 0 (c .if1 .taken))
 
-sub-result : tie.Need-sub-result
-sub-result c = search needs
-
-sub-result-2 : tie.Need-sub-result-2
-sub-result-2 c = search needs
-
 returns-2 : tie.Need-returns-2
 returns-2 c = rw (ne-eqb (c .before .args .a) 0 (c .if1 .left))
 
 pub are-opposite-spec : {M : Type 1} → statement M
-are-opposite-spec = tie.close (tie.spec returns sub-result sub-result-2 returns-2)
+are-opposite-spec = tie.close (tie.spec returns (λ c. search needs) (λ c. search needs) returns-2)

@@ -10,13 +10,17 @@ get-word-requires : tie.Need-get-word-requires
 get-word-requires c κs = omega (arith, c .before .before .before .pre .0 .bytes-is (c .if1 .taken))
 
 returns : tie.Need-returns
-returns c = cell-imaged _ _ _ _ (c .before .before .before .before .pre .0) (c .before .if1 .taken) _ _ (c .before .before .before .before .pre .1) (c .get-word .ensures)
+returns c =
+    let at-start : tie.Start = search in
+    cell-imaged _ _ _ _ (at-start .pre .0) (c .before .if1 .taken) _ _ (at-start .pre .1) (c .get-word .ensures)
 
 mul-result : tie.Need-mul-result
 mul-result c = omega (arith, c .before .before .before .pre .0 .lent-is (c .if1 .left))
 
 shared-slice-read-result : tie.Need-shared-slice-read-result
-shared-slice-read-result c = omega (arith, c .before .before .before .before .pre .0 .lent-is (c .before .if1 .left))
+shared-slice-read-result c =
+    let at-start : tie.Start = search in
+    omega (arith, at-start .pre .0 .lent-is (c .before .if1 .left))
 
 returns-2 : tie.Need-returns-2
 returns-2 c = rw (c .before .if1 .left)

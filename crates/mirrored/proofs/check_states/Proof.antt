@@ -28,37 +28,43 @@ abbrev μ-loop : tie.MeasureT-loop
 μ-loop n mirrors stay moved totals sb mb tb imaged i₀ i = n - i
 
 loop-holds : tie.Need-loop-holds Inv-loop μ-loop
-loop-holds c = ap (firstFrom _ 0) (whole (c .before .before .before .before .before .before .args .n))
+loop-holds c =
+    let at-start : tie.Start Inv-loop μ-loop = search in
+    ap (firstFrom _ 0) (whole (at-start .args .n))
 
 check-state-requires : tie.Need-check-state-requires Inv-loop μ-loop
-check-state-requires c κs = let p = c .before .before .before .before .before .before .before .before .pre in (c .loop-test .taken, p .0, p .1)
-
-enum-told : tie.Need-enum-told Inv-loop μ-loop
-enum-told c = search needs
-
-enum-told-2 : tie.Need-enum-told-2 Inv-loop μ-loop
-enum-told-2 c = search needs
+check-state-requires c κs =
+    let at-start : tie.Start Inv-loop μ-loop = search in
+    let p = at-start .pre in (c .loop-test .taken, p .0, p .1)
 
 returns : tie.Need-returns Inv-loop μ-loop
 returns c =
-    let l = c .before .before .before .before .loop in
+    let at-loop : tie.At-loop Inv-loop μ-loop = search in
+    let at-start : tie.Start Inv-loop μ-loop = search in
+    let l = at-loop .loop in
     let k = c .before .before .check-state in
-    sym (l .inv ∙ first-stop _ (l .i) (c .before .before .before .before .before .before .before .before .before .before .before .args .n) (k .result) (c .enum-told2 .given .0 .0) (c .before .before .before .loop-test .taken) (k .ensures) (c .enum-told2 .given .1))
-
-add-i : tie.Need-add-i Inv-loop μ-loop
-add-i c = omega arith
+    sym (l .inv
+    ∙ first-stop _ (l .i) (at-start .args .n) (k .result) (c .enum-told2 .given .0 .0) (c .before .before .before .loop-test .taken) (k .ensures)
+    (c .enum-told2 .given .1))
 
 loop-less : tie.Need-loop-less Inv-loop μ-loop
-loop-less c = falls (c .before .before .before .before .before .before .before .before .before .before .before .args .n) (c .before .before .before .before .loop .i) (c .before .before .before .loop-test .taken)
+loop-less c =
+    let at-loop : tie.At-loop Inv-loop μ-loop = search in
+    let at-start : tie.Start Inv-loop μ-loop = search in
+    falls (at-start .args .n) (at-loop .loop .i) (c .before .before .before .loop-test .taken)
 
 loop-again : tie.Need-loop-again Inv-loop μ-loop
 loop-again c =
-    let l = c .before .before .before .before .loop in
+    let at-loop : tie.At-loop Inv-loop μ-loop = search in
+    let at-start : tie.Start Inv-loop μ-loop = search in
+    let l = at-loop .loop in
     let k = c .before .before .check-state in
-    l .inv ∙ first-step _ (l .i) (c .before .before .before .before .before .before .before .before .before .before .before .args .n) (k .result) (c .before .before .before .loop-test .taken) (k .ensures) (c .enum-told .given .1)
+    l .inv ∙ first-step _ (l .i) (at-start .args .n) (k .result) (c .before .before .before .loop-test .taken) (k .ensures) (c .enum-told .given .1)
 
 returns-2 : tie.Need-returns-2 Inv-loop μ-loop
-returns-2 c = sym (c .before .loop .inv ∙ first-end _ (c .before .loop .i) (c .before .before .before .before .before .before .before .before .args .n) (c .loop-test .left))
+returns-2 c =
+    let at-start : tie.Start Inv-loop μ-loop = search in
+    sym (c .before .loop .inv ∙ first-end _ (c .before .loop .i) (at-start .args .n) (c .loop-test .left))
 
 pub check-states-spec : {M : Type 1} → statement M
 check-states-spec =
@@ -68,10 +74,10 @@ check-states-spec =
     μ-loop
     loop-holds
     check-state-requires
-    enum-told
-    enum-told-2
+    (λ c. search needs)
+    (λ c. search needs)
     returns
-    add-i
+    (λ c. omega arith)
     loop-less
     loop-again
     returns-2)

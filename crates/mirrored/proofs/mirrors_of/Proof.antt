@@ -14,9 +14,6 @@ Inv-loop c n r₀ i₀ r i = (length r ≡ 256) × ((k : ℕ) → k < i → getD
 abbrev μ-loop : tie.MeasureT-loop
 μ-loop c n r₀ i₀ r i = n - i
 
-state-count-requires : tie.Need-state-count-requires Inv-loop μ-loop
-state-count-requires c κs = c .pre
-
 loop-holds : tie.Need-loop-holds Inv-loop μ-loop
 loop-holds c = (refl, below-none _)
 
@@ -24,23 +21,29 @@ mirror-of-requires : tie.Need-mirror-of-requires Inv-loop μ-loop
 mirror-of-requires c κs = omega (arith, c .before .before .before .pre, c .before .before .state-count .ensures)
 
 mul-r : tie.Need-mul-r Inv-loop μ-loop
-mul-r c = omega (arith, c .before .before .before .before .pre .states-most, c .before .before .before .state-count .ensures)
+mul-r c =
+    let at-start : tie.Start Inv-loop μ-loop = search in
+    omega (arith, at-start .pre .states-most, c .before .before .before .state-count .ensures)
 
 array-write-r : tie.Need-array-write-r Inv-loop μ-loop
-array-write-r c = omega (arith, c .before .before .before .before .pre .states-most, c .before .before .before .state-count .ensures)
-
-add-i : tie.Need-add-i Inv-loop μ-loop
-add-i c = omega arith
+array-write-r c =
+    let at-start : tie.Start Inv-loop μ-loop = search in
+    omega (arith, at-start .pre .states-most, c .before .before .before .state-count .ensures)
 
 loop-less : tie.Need-loop-less Inv-loop μ-loop
 loop-less c = falls (c .before .before .before .state-count .result) (c .before .before .loop .i) (c .before .loop-test .taken)
 
 loop-again : tie.Need-loop-again Inv-loop μ-loop
 loop-again c =
-    let i = c .before .before .loop .i in
-    let r = c .before .before .loop .r in
-    let v = c .mirror-of .result in
-    (length-set r i v ∙ c .before .before .loop .inv .0, filled-by (mirrorOf (c .before .before .before .before .args .c .«imbalance_buckets»)) r i v 0 (omega (arith, c .before .before .before .before .pre .states-most, c .before .before .before .state-count .ensures)) (c .mirror-of .ensures) (c .before .before .loop .inv .1))
+    let at-loop : tie.At-loop Inv-loop μ-loop = search in
+    let at-start : tie.Start Inv-loop μ-loop = search in
+    let i = at-loop .loop .i in
+    let r = at-loop .loop .r in
+    let v = c .mirror-of .result in (
+      length-set r i v ∙ at-loop .loop .inv .0,
+      filled-by (mirrorOf (at-start .args .c .«imbalance_buckets»)) r i v 0
+          (omega (arith, at-start .pre .states-most, c .before .before .before .state-count .ensures)) (c .mirror-of .ensures) (at-loop .loop .inv .1),
+    )
 
 returns : tie.Need-returns Inv-loop μ-loop
 returns c = λ i h. c .before .loop .inv .1 i (omega (arith, c .before .before .state-count .ensures))
@@ -51,12 +54,12 @@ mirrors-of-spec =
     (tie.spec
     Inv-loop
     μ-loop
-    state-count-requires
+    (λ c κs. c .pre)
     loop-holds
     mirror-of-requires
     mul-r
     array-write-r
-    add-i
+    (λ c. omega arith)
     loop-less
     loop-again
     returns)

@@ -31,59 +31,92 @@ mul-cells : tie.Need-mul-cells Inv-loop μ-loop
 mul-cells c = fits-mul 256 256 (omega arith) (omega arith) tt
 
 mul-m : tie.Need-mul-m Inv-loop μ-loop
-mul-m c = omega (arith, c .before .before .before .before .before .pre .2 .enough)
+mul-m c =
+    let at-start : tie.Start Inv-loop μ-loop = search in
+    omega (arith, at-start .pre .2 .enough)
 
 shared-slice-read-m : tie.Need-shared-slice-read-m Inv-loop μ-loop
-shared-slice-read-m c = omega (arith, c .before .before .before .before .before .before .pre .2 .enough)
+shared-slice-read-m c =
+    let at-start : tie.Start Inv-loop μ-loop = search in
+    omega (arith, at-start .pre .2 .enough)
 
 loop-holds : tie.Need-loop-holds Inv-loop μ-loop
-loop-holds c = ap (allFrom _ 0) (whole (c .before .before .before .before .before .before .args .n))
+loop-holds c =
+    let at-start : tie.Start Inv-loop μ-loop = search in
+    ap (allFrom _ 0) (whole (at-start .args .n))
 
 place-requires : tie.Need-place-requires Inv-loop μ-loop
-place-requires c κs = let p = c .before .before .before .before .before .before .before .before .pre in (p .0, p .1, c .loop-test .taken)
+place-requires c κs =
+    let at-start : tie.Start Inv-loop μ-loop = search in
+    let p = at-start .pre in (p .0, p .1, c .loop-test .taken)
 
 mul-place : tie.Need-mul-place Inv-loop μ-loop
-mul-place c = omega (arith, c .before .before .before .before .before .before .before .before .before .pre .2 .enough, c .before .loop-test .taken)
+mul-place c =
+    let at-start : tie.Start Inv-loop μ-loop = search in
+    omega (arith, at-start .pre .2 .enough, c .before .loop-test .taken)
 
 shared-slice-read-place : tie.Need-shared-slice-read-place Inv-loop μ-loop
-shared-slice-read-place c = omega (arith, c .before .before .before .before .before .before .before .before .before .before .pre .2 .enough, c .before .before .loop-test .taken)
+shared-slice-read-place c =
+    let at-start : tie.Start Inv-loop μ-loop = search in
+    omega (arith, at-start .pre .2 .enough, c .before .before .loop-test .taken)
 
 place-requires-2 : tie.Need-place-requires-2 Inv-loop μ-loop
 place-requires-2 c κs =
-    let p = c .before .before .before .before .before .before .before .before .before .before .pre in
-    (p .0, p .2 .below (c .before .before .before .before .before .before .before .before .before .before .args .i) (p .1), p .2 .below (c .before .before .before .loop .j) (c .before .before .loop-test .taken))
+    let at-start : tie.Start Inv-loop μ-loop = search in
+    let p = at-start .pre in
+    (p .0, p .2 .below (at-start .args .i) (p .1), p .2 .below (c .before .before .before .loop .j) (c .before .before .loop-test .taken))
 
 cells-alike-requires : tie.Need-cells-alike-requires Inv-loop μ-loop
-cells-alike-requires c κs = (c .before .before .before .before .before .before .before .before .before .before .before .pre .3, c .before .before .place .ensures .1, c .place2 .ensures .1)
+cells-alike-requires c κs =
+    let at-start : tie.Start Inv-loop μ-loop = search in
+    (at-start .pre .3, c .before .before .place .ensures .1, c .place2 .ensures .1)
 
 cells-alike-requires-2 : tie.Need-cells-alike-requires-2 Inv-loop μ-loop
-cells-alike-requires-2 c κs = (c .before .before .before .before .before .before .before .before .before .before .before .before .pre .4, c .before .before .before .place .ensures .1, c .before .place2 .ensures .1)
+cells-alike-requires-2 c κs =
+    let at-start : tie.Start Inv-loop μ-loop = search in
+    (at-start .pre .4, c .before .before .before .place .ensures .1, c .before .place2 .ensures .1)
 
 -- what the two comparisons of a turn say of its cell
-alike : (c : tie.After-cells-alike2 Inv-loop μ-loop) → let a = c .before .before .before .before .before .before .before .before .before .before .before .before .before .args in (c .before .cells-alike .result && c .cells-alike2 .result) ≡ cell (a .n) (a .mirrors .now) (a .stay .now) (a .moved .now) (a .sb .now) (a .mb .now) (a .imaged) (a .i) (c .before .before .before .before .before .before .loop .j)
+alike : (c : tie.After-cells-alike2 Inv-loop μ-loop) → let at-loop : tie.At-loop Inv-loop μ-loop = search in
+    let at-start : tie.Start Inv-loop μ-loop = search in let a = at-start .args in
+    (c .before .cells-alike .result && c .cells-alike2 .result) ≡ cell (a .n) (a .mirrors .now) (a .stay .now) (a .moved .now) (a .sb .now) (a .mb .now)
+    (a .imaged) (a .i) (at-loop .loop .j)
 alike c =
-    let a = c .before .before .before .before .before .before .before .before .before .before .before .before .before .args in
+    let at-place : tie.After-place Inv-loop μ-loop = search in
+    let at-loop : tie.At-loop Inv-loop μ-loop = search in
+    let at-start : tie.Start Inv-loop μ-loop = search in
+    let a = at-start .args in
     let t : Tables = tables (cellsIn (a .imaged) (a .stay .now) (a .sb .now)) (cellsIn (a .imaged) (a .moved .now) (a .mb .now)) [] in
-    cell-is (a .n) (λ k. getD (a .mirrors .now) k 0) t (a .i) (c .before .before .before .before .before .before .loop .j) _ _ _ _ (c .before .before .before .before .place .ensures .0) (c .before .before .place2 .ensures .0) (c .before .cells-alike .ensures) (c .cells-alike2 .ensures)
+    cell-is (a .n) (λ k. getD (a .mirrors .now) k 0) t (a .i) (at-loop .loop .j) _ _ _ _ (at-place .place .ensures .0) (c .before .before .place2 .ensures .0)
+    (c .before .cells-alike .ensures) (c .cells-alike2 .ensures)
 
 returns : tie.Need-returns Inv-loop μ-loop
 returns c =
-    let l = c .before .before .before .before .before .before .before .loop in
-    sym (l .inv ∙ all-stop _ (l .j) (c .before .before .before .before .before .before .before .before .before .before .before .before .before .before .args .n) (c .before .before .before .before .before .before .loop-test .taken) (sym (alike (c .before)) ∙ not-true _ (c .if1 .taken)))
-
-add-j : tie.Need-add-j Inv-loop μ-loop
-add-j c = omega arith
+    let in-loop : tie.In-loop Inv-loop μ-loop = search in
+    let at-loop : tie.At-loop Inv-loop μ-loop = search in
+    let at-start : tie.Start Inv-loop μ-loop = search in
+    let l = at-loop .loop in
+    sym (l .inv ∙ all-stop _ (l .j) (at-start .args .n) (in-loop .loop-test .taken) (sym (alike (c .before)) ∙ not-true _ (c .if1 .taken)))
 
 loop-less : tie.Need-loop-less Inv-loop μ-loop
-loop-less c = falls (c .before .before .before .before .before .before .before .before .before .before .before .before .before .before .args .n) (c .before .before .before .before .before .before .before .loop .j) (c .before .before .before .before .before .before .loop-test .taken)
+loop-less c =
+    let in-loop : tie.In-loop Inv-loop μ-loop = search in
+    let at-loop : tie.At-loop Inv-loop μ-loop = search in
+    let at-start : tie.Start Inv-loop μ-loop = search in
+    falls (at-start .args .n) (at-loop .loop .j) (in-loop .loop-test .taken)
 
 loop-again : tie.Need-loop-again Inv-loop μ-loop
 loop-again c =
-    let l = c .before .before .before .before .before .before .before .loop in
-    l .inv ∙ all-step _ (l .j) (c .before .before .before .before .before .before .before .before .before .before .before .before .before .before .args .n) (c .before .before .before .before .before .before .loop-test .taken) (sym (alike (c .before)) ∙ not-false _ (c .if1 .left))
+    let in-loop : tie.In-loop Inv-loop μ-loop = search in
+    let at-loop : tie.At-loop Inv-loop μ-loop = search in
+    let at-start : tie.Start Inv-loop μ-loop = search in
+    let l = at-loop .loop in
+    l .inv ∙ all-step _ (l .j) (at-start .args .n) (in-loop .loop-test .taken) (sym (alike (c .before)) ∙ not-false _ (c .if1 .left))
 
 returns-2 : tie.Need-returns-2 Inv-loop μ-loop
-returns-2 c = sym (c .before .loop .inv ∙ all-end _ (c .before .loop .j) (c .before .before .before .before .before .before .before .before .args .n) (c .loop-test .left))
+returns-2 c =
+    let at-start : tie.Start Inv-loop μ-loop = search in
+    sym (c .before .loop .inv ∙ all-end _ (c .before .loop .j) (at-start .args .n) (c .loop-test .left))
 
 pub row-mirrored-spec : {M : Type 1} → statement M
 row-mirrored-spec =
@@ -102,7 +135,7 @@ row-mirrored-spec =
     cells-alike-requires
     cells-alike-requires-2
     returns
-    add-j
+    (λ c. omega arith)
     loop-less
     loop-again
     returns-2)

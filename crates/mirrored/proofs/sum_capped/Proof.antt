@@ -21,28 +21,31 @@ loop-holds : tie.Need-loop-holds Inv-loop μ-loop
 loop-holds c = (omega arith, ap (min 9007199254740993) (omega arith))
 
 cell-in-requires : tie.Need-cell-in-requires Inv-loop μ-loop
-cell-in-requires c κs = (c .before .before .before .before .pre, c .loop-test .taken)
-
-add-capped-requires : tie.Need-add-capped-requires Inv-loop μ-loop
-add-capped-requires c κs = c .before .before .loop .inv .0
-
-add-i : tie.Need-add-i Inv-loop μ-loop
-add-i c = omega arith
+cell-in-requires c κs =
+    let at-start : tie.Start Inv-loop μ-loop = search in
+    (at-start .pre, c .loop-test .taken)
 
 loop-less : tie.Need-loop-less Inv-loop μ-loop
-loop-less c = falls (c .before .before .before .before .before .before .args .n) (c .before .before .before .loop .i) (c .before .before .loop-test .taken)
+loop-less c =
+    let at-start : tie.Start Inv-loop μ-loop = search in
+    falls (at-start .args .n) (c .before .before .before .loop .i) (c .before .before .loop-test .taken)
 
 loop-again : tie.Need-loop-again Inv-loop μ-loop
 loop-again c =
-    let a = c .before .before .before .before .before .before .args in
-    let l = c .before .before .before .loop in
-    (omega (arith, c .add-capped .ensures), sum-step _ (a .n) (l .i) (l .a) (c .before .cell-in .result) (c .add-capped .result) (cells-length _ _ (a .t .now) (a .b .now) (c .before .before .before .before .before .before .pre)) (c .before .before .loop-test .taken) (c .before .cell-in .ensures) (c .add-capped .ensures) ∙ l .inv .1)
+    let at-start : tie.Start Inv-loop μ-loop = search in
+    let a = at-start .args in
+    let l = c .before .before .before .loop in (
+      omega (arith, c .add-capped .ensures),
+      sum-step _ (a .n) (l .i) (l .a) (c .before .cell-in .result) (c .add-capped .result) (cells-length _ _ (a .t .now) (a .b .now) (at-start .pre))
+          (c .before .before .loop-test .taken) (c .before .cell-in .ensures) (c .add-capped .ensures) ∙ l .inv .1,
+    )
 
 returns : tie.Need-returns Inv-loop μ-loop
 returns c =
-    let a = c .before .before .before .before .args in
+    let at-start : tie.Start Inv-loop μ-loop = search in
+    let a = at-start .args in
     let l = c .before .loop in
-    sum-end _ (a .n) (l .i) (l .a) (cells-length _ _ (a .t .now) (a .b .now) (c .before .before .before .before .pre)) (c .loop-test .left) (l .inv .0) ∙ l .inv .1
+    sum-end _ (a .n) (l .i) (l .a) (cells-length _ _ (a .t .now) (a .b .now) (at-start .pre)) (c .loop-test .left) (l .inv .0) ∙ l .inv .1
 
 pub sum-capped-spec : {M : Type 1} → statement M
 sum-capped-spec =
@@ -52,8 +55,8 @@ sum-capped-spec =
     μ-loop
     loop-holds
     cell-in-requires
-    add-capped-requires
-    add-i
+    (λ c κs. c .before .before .loop .inv .0)
+    (λ c. omega arith)
     loop-less
     loop-again
     returns)

@@ -10,7 +10,9 @@ get-word-requires : tie.Need-get-word-requires
 get-word-requires c κs = omega (arith, c .before .before .pre .0 .bytes-is (c .if1 .taken))
 
 returns : tie.Need-returns
-returns c = total-imaged _ _ _ _ (c .before .before .before .pre .0) (c .before .if1 .taken) _ _ (c .before .before .before .pre .1) (omega arith) (c .get-word .ensures)
+returns c =
+    let at-start : tie.Start = search in
+    total-imaged _ _ _ _ (at-start .pre .0) (c .before .if1 .taken) _ _ (at-start .pre .1) (omega arith) (c .get-word .ensures)
 
 word-of-requires : tie.Need-word-of-requires
 word-of-requires c κs = omega (arith, c .before .before .pre .0 .lent-is (c .if1 .left))

@@ -20,39 +20,44 @@ Inv-loop t b imaged n i₀ i = any overTotal (totalsIn imaged t b) ≡ any overT
 abbrev μ-loop : tie.MeasureT-loop
 μ-loop t b imaged n i₀ i = n - i
 
-loop-holds : tie.Need-loop-holds Inv-loop μ-loop
-loop-holds c = refl
-
 total-in-requires : tie.Need-total-in-requires Inv-loop μ-loop
 total-in-requires c κs = (c .before .before .before .pre, c .loop-test .taken)
 
-is-within-word-requires : tie.Need-is-within-word-requires Inv-loop μ-loop
-is-within-word-requires c κs = tt
-
 -- what a turn's test of the word says of its total
-over : (c : tie.After-is-within-word Inv-loop μ-loop) → let a = c .before .before .before .before .before .args in overTotal (getD (totalsIn (a .imaged) (a .t .now) (a .b .now)) (c .before .before .before .loop .i) (pos 0)) ≡ not (c .is-within-word .result)
+over : (c : tie.After-is-within-word Inv-loop μ-loop) → let at-start : tie.Start Inv-loop μ-loop = search in let a = at-start .args in
+    overTotal (getD (totalsIn (a .imaged) (a .t .now) (a .b .now)) (c .before .before .before .loop .i) (pos 0)) ≡ not (c .is-within-word .result)
 over c = over-is _ _ _ (c .before .total-in .ensures) (c .is-within-word .ensures)
 
 returns : tie.Need-returns Inv-loop μ-loop
 returns c =
-    let a = c .before .before .before .before .before .before .args in
-    sym (c .before .before .before .before .loop .inv ∙ any-stop overTotal (pos 0) _ (a .n) (totals-length _ _ (a .t .now) (a .b .now) (c .before .before .before .before .before .before .pre)) (c .before .before .before .before .loop .i) (c .before .before .before .loop-test .taken) (over (c .before) ∙ c .if1 .taken))
-
-add-i : tie.Need-add-i Inv-loop μ-loop
-add-i c = omega arith
+    let at-loop : tie.At-loop Inv-loop μ-loop = search in
+    let at-start : tie.Start Inv-loop μ-loop = search in
+    let a = at-start .args in
+    sym (at-loop .loop .inv
+    ∙ any-stop overTotal (pos 0) _ (a .n) (totals-length _ _ (a .t .now) (a .b .now) (at-start .pre)) (at-loop .loop .i)
+    (c .before .before .before .loop-test .taken) (over (c .before) ∙ c .if1 .taken))
 
 loop-less : tie.Need-loop-less Inv-loop μ-loop
-loop-less c = falls (c .before .before .before .before .before .before .args .n) (c .before .before .before .before .loop .i) (c .before .before .before .loop-test .taken)
+loop-less c =
+    let at-loop : tie.At-loop Inv-loop μ-loop = search in
+    let at-start : tie.Start Inv-loop μ-loop = search in
+    falls (at-start .args .n) (at-loop .loop .i) (c .before .before .before .loop-test .taken)
 
 loop-again : tie.Need-loop-again Inv-loop μ-loop
 loop-again c =
-    let a = c .before .before .before .before .before .before .args in
-    c .before .before .before .before .loop .inv ∙ any-step overTotal (pos 0) _ (a .n) (totals-length _ _ (a .t .now) (a .b .now) (c .before .before .before .before .before .before .pre)) (c .before .before .before .before .loop .i) (c .before .before .before .loop-test .taken) (over (c .before) ∙ c .if1 .left)
+    let at-loop : tie.At-loop Inv-loop μ-loop = search in
+    let at-start : tie.Start Inv-loop μ-loop = search in
+    let a = at-start .args in
+    at-loop .loop .inv
+    ∙ any-step overTotal (pos 0) _ (a .n) (totals-length _ _ (a .t .now) (a .b .now) (at-start .pre)) (at-loop .loop .i)
+    (c .before .before .before .loop-test .taken) (over (c .before) ∙ c .if1 .left)
 
 returns-2 : tie.Need-returns-2 Inv-loop μ-loop
 returns-2 c =
-    let a = c .before .before .before .args in
-    sym (c .before .loop .inv ∙ any-end overTotal (pos 0) _ (a .n) (totals-length _ _ (a .t .now) (a .b .now) (c .before .before .before .pre)) (c .before .loop .i) (c .loop-test .left))
+    let at-start : tie.Start Inv-loop μ-loop = search in
+    let a = at-start .args in
+    sym (c .before .loop .inv
+    ∙ any-end overTotal (pos 0) _ (a .n) (totals-length _ _ (a .t .now) (a .b .now) (at-start .pre)) (c .before .loop .i) (c .loop-test .left))
 
 pub totals-over-spec : {M : Type 1} → statement M
 totals-over-spec =
@@ -60,11 +65,11 @@ totals-over-spec =
     (tie.spec
     Inv-loop
     μ-loop
-    loop-holds
+    (λ c. refl)
     total-in-requires
-    is-within-word-requires
+    (λ c κs. tt)
     returns
-    add-i
+    (λ c. omega arith)
     loop-less
     loop-again
     returns-2)

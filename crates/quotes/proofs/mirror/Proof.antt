@@ -6,9 +6,6 @@ use borrow.Author.Needs.{needs}
 use Rattle.quotes.proofs.mirror.Statement.{statement}
 use Rattle.quotes.proofs.mirror.Tie as tie
 
-is-valid-requires : tie.Need-is-valid-requires
-is-valid-requires c κs = search needs
-
 returns : tie.Need-returns
 returns c = rw (← c .before .is-valid .ensures, not-true (c .before .is-valid .result) (c .if1 .taken))
 
@@ -16,21 +13,37 @@ state-count-requires : tie.Need-state-count-requires
 state-count-requires c κs = valid-known (c .before .before .args .config) (sym (c .before .is-valid .ensures) ∙ not-false _ (c .if1 .left))
 
 returns-2 : tie.Need-returns-2
-returns-2 c = rw (← c .before .before .before .is-valid .ensures, not-false (c .before .before .before .is-valid .result) (c .before .before .if1 .left), ← c .before .state-count .ensures, le-ltb _ _ (c .if2 .taken))
+returns-2 c =
+    let at-is-valid : tie.After-is-valid = search in
+    rw (
+      ← at-is-valid .is-valid .ensures,
+      not-false (at-is-valid .is-valid .result) (c .before .before .if1 .left),
+      ← c .before .state-count .ensures,
+      le-ltb _ _ (c .if2 .taken),
+    )
 
 mirror-of-requires : tie.Need-mirror-of-requires
 mirror-of-requires c κs =
-    let v = valid-known (c .before .before .before .before .args .config) (sym (c .before .before .before .is-valid .ensures) ∙ not-false _ (c .before .before .if1 .left)) in
+    let at-start : tie.Start = search in
+    let v = valid-known (at-start .args .config) (sym (c .before .before .before .is-valid .ensures) ∙ not-false _ (c .before .before .if1 .left)) in
     (omega (arith, v .n-least), v .n-most, omega (arith, v .states-most, c .before .state-count .ensures, c .if2 .left))
 
 returns-3 : tie.Need-returns-3
-returns-3 c = rw (← c .before .before .before .before .is-valid .ensures, not-false (c .before .before .before .before .is-valid .result) (c .before .before .before .if1 .left), ← c .before .before .state-count .ensures, lt-ltb _ _ (c .before .if2 .left), c .mirror-of .ensures)
+returns-3 c =
+    let at-is-valid : tie.After-is-valid = search in
+    rw (
+      ← at-is-valid .is-valid .ensures,
+      not-false (at-is-valid .is-valid .result) (c .before .before .before .if1 .left),
+      ← c .before .before .state-count .ensures,
+      lt-ltb _ _ (c .before .if2 .left),
+      c .mirror-of .ensures,
+    )
 
 pub mirror-spec : {M : Type 1} → statement M
 mirror-spec =
     tie.close
     (tie.spec
-    is-valid-requires
+    (λ c κs. search needs)
     returns
     state-count-requires
     returns-2

@@ -7,14 +7,14 @@ use Rattle.recording.proofs.window_of.Tie as tie
 
 returns : tie.Need-returns
 returns c =
-    way-uneven (c .before .before .args .recording .now) (c .before .before .args .start) (c .before .before .args .end) (c .if1 .taken)
-
-is-sorted-requires : tie.Need-is-sorted-requires
-is-sorted-requires c κs = search needs
+    let at-start : tie.Start = search in
+    way-uneven (at-start .args .recording .now) (at-start .args .start) (at-start .args .end) (c .if1 .taken)
 
 returns-2 : tie.Need-returns-2
 returns-2 c =
-    way-unsorted (c .before .before .before .before .args .recording .now) (c .before .before .before .before .args .start) (c .before .before .before .before .args .end) (c .before .before .if1 .left) (sym (c .before .is-sorted .ensures) ∙ not-true _ (c .if2 .taken))
+    let at-start : tie.Start = search in
+    way-unsorted (at-start .args .recording .now) (at-start .args .start) (at-start .args .end) (c .before .before .if1 .left)
+    (sym (c .before .is-sorted .ensures) ∙ not-true _ (c .if2 .taken))
 
 quotes-before-requires : tie.Need-quotes-before-requires
 quotes-before-requires c κs = sym (c .before .is-sorted .ensures) ∙ not-false _ (c .if2 .left)
@@ -24,18 +24,28 @@ quotes-before-requires-2 c κs = sym (c .before .before .is-sorted .ensures) ∙
 
 returns-3 : tie.Need-returns-3
 returns-3 c =
-    way-backward (c .before .before .before .before .before .before .before .args .recording .now) (c .before .before .before .before .before .before .before .args .start) (c .before .before .before .before .before .before .before .args .end) (c .before .before .before .before .before .if1 .left) _ _ (sym (c .before .before .before .before .is-sorted .ensures) ∙ not-false _ (c .before .before .before .if2 .left)) (c .before .before .quotes-before .ensures) (c .before .quotes-before2 .ensures) (c .if3 .taken)
+    let at-is-sorted : tie.After-is-sorted = search in
+    let at-else1 : tie.Else1 = search in
+    let at-start : tie.Start = search in
+    way-backward (at-start .args .recording .now) (at-start .args .start) (at-start .args .end) (at-else1 .if1 .left) _ _
+    (sym (at-is-sorted .is-sorted .ensures) ∙ not-false _ (c .before .before .before .if2 .left)) (c .before .before .quotes-before .ensures)
+    (c .before .quotes-before2 .ensures) (c .if3 .taken)
 
 returns-4 : tie.Need-returns-4
 returns-4 c =
-    way-part (c .before .before .before .before .before .before .before .args .recording .now) (c .before .before .before .before .before .before .before .args .start) (c .before .before .before .before .before .before .before .args .end) (c .before .before .before .before .before .if1 .left) _ _ (sym (c .before .before .before .before .is-sorted .ensures) ∙ not-false _ (c .before .before .before .if2 .left)) (c .before .before .quotes-before .ensures) (c .before .quotes-before2 .ensures) (c .if3 .left)
+    let at-is-sorted : tie.After-is-sorted = search in
+    let at-else1 : tie.Else1 = search in
+    let at-start : tie.Start = search in
+    way-part (at-start .args .recording .now) (at-start .args .start) (at-start .args .end) (at-else1 .if1 .left) _ _
+    (sym (at-is-sorted .is-sorted .ensures) ∙ not-false _ (c .before .before .before .if2 .left)) (c .before .before .quotes-before .ensures)
+    (c .before .quotes-before2 .ensures) (c .if3 .left)
 
 pub window-of-spec : {M : Type 1} → statement M
 window-of-spec =
     tie.close
     (tie.spec
     returns
-    is-sorted-requires
+    (λ c κs. search needs)
     returns-2
     quotes-before-requires
     quotes-before-requires-2

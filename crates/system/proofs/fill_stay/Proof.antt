@@ -15,56 +15,35 @@ use Rattle.system.proofs.fill_stay.Statement.{statement}
 use Rattle.system.proofs.fill_stay.Tie as tie
 
 abbrev Inv-loop : tie.InvT-loop
-Inv-loop stay n x observed is-used scratch₀ to row k₀ scratch k = (k ≤ n) × (length scratch ≡ length scratch₀) × Filled to k (λ k. let q = part is-used (pos (cellOf n stay x k)) observed in cond (eqb x k) (sub binary64 one q) (neg q)) scratch₀ scratch
+Inv-loop stay n x observed is-used scratch₀ to row k₀ scratch k =
+    (k ≤ n) × (length scratch ≡ length scratch₀)
+    × Filled to k (λ k. let q = part is-used (pos (cellOf n stay x k)) observed in cond (eqb x k) (sub binary64 one q) (neg q)) scratch₀ scratch
 
 abbrev μ-loop : tie.MeasureT-loop
 μ-loop stay n x observed is-used scratch₀ to row k₀ scratch k = n - k
 
-mul-row : tie.Need-mul-row Inv-loop μ-loop
-mul-row c = omega arith
-
 loop-holds : tie.Need-loop-holds Inv-loop μ-loop
 loop-holds c = (omega arith, refl, filled-none)
 
-add-part-of : tie.Need-add-part-of Inv-loop μ-loop
-add-part-of c = omega arith
-
-mul-part-of : tie.Need-mul-part-of Inv-loop μ-loop
-mul-part-of c = omega arith
-
-shared-slice-read-part-of : tie.Need-shared-slice-read-part-of Inv-loop μ-loop
-shared-slice-read-part-of c = omega arith
-
 part-of-requires : tie.Need-part-of-requires Inv-loop μ-loop
-part-of-requires c κs = (c .before .before .before .before .before .pre .1 (c .before .before .loop .k) (omega arith), omega arith)
-
-less-stay-requires : tie.Need-less-stay-requires Inv-loop μ-loop
-less-stay-requires c κs = tt
-
-add-scratch : tie.Need-add-scratch Inv-loop μ-loop
-add-scratch c = omega arith
-
-mul-scratch : tie.Need-mul-scratch Inv-loop μ-loop
-mul-scratch c = omega arith
-
-slice-write-scratch : tie.Need-slice-write-scratch Inv-loop μ-loop
-slice-write-scratch c = omega arith
-
-add-k : tie.Need-add-k Inv-loop μ-loop
-add-k c = omega arith
-
-loop-less : tie.Need-loop-less Inv-loop μ-loop
-loop-less c = omega arith
+part-of-requires c κs =
+    let at-start : tie.Start Inv-loop μ-loop = search in
+    (at-start .pre .1 (c .before .before .loop .k) (omega arith), omega arith)
 
 loop-again : tie.Need-loop-again Inv-loop μ-loop
-loop-again c = (omega arith, simp length-set (omega arith), filled-more (c .before .before .before .before .loop .inv .2) _ (omega arith) (c .less-stay .ensures ∙ ap (λ q. cond (eqb (c .before .before .before .before .before .before .before .args .x) (c .before .before .before .before .loop .k)) (sub binary64 one q) (neg q)) (c .before .part-of .ensures)))
-
-same-length : tie.Need-same-length Inv-loop μ-loop
-same-length c = omega arith
+loop-again c =
+    let at-loop : tie.At-loop Inv-loop μ-loop = search in
+    let at-start : tie.Start Inv-loop μ-loop = search in (
+      omega arith,
+      simp length-set (omega arith),
+      filled-more (at-loop .loop .inv .2) _ (omega arith)
+          (c .less-stay .ensures ∙ ap (λ q. cond (eqb (at-start .args .x) (at-loop .loop .k)) (sub binary64 one q) (neg q)) (c .before .part-of .ensures)),
+    )
 
 returns : tie.Need-returns Inv-loop μ-loop
 returns c =
-    let done : c .before .loop .k ≡ c .before .before .before .before .args .n = omega arith in
+    let at-start : tie.Start Inv-loop μ-loop = search in
+    let done : c .before .loop .k ≡ at-start .args .n = omega arith in
     rw done at (c .before .loop .inv .2)
 
 pub fill-stay-spec : {M : Type 1} → statement M
@@ -73,18 +52,18 @@ fill-stay-spec =
     (tie.spec
     Inv-loop
     μ-loop
-    mul-row
+    (λ c. omega arith)
     loop-holds
-    add-part-of
-    mul-part-of
-    shared-slice-read-part-of
+    (λ c. omega arith)
+    (λ c. omega arith)
+    (λ c. omega arith)
     part-of-requires
-    less-stay-requires
-    add-scratch
-    mul-scratch
-    slice-write-scratch
-    add-k
-    loop-less
+    (λ c κs. tt)
+    (λ c. omega arith)
+    (λ c. omega arith)
+    (λ c. omega arith)
+    (λ c. omega arith)
+    (λ c. omega arith)
     loop-again
-    same-length
+    (λ c. omega arith)
     returns)

@@ -1,6 +1,6 @@
 use native.Mathlib.Omega.{arith}
 use Prim.Native.Nat.{ℕ, _≤_, _-_}
-use mathlib.Core.Path.{_≡_, refl, _∙_}
+use mathlib.Core.Path.{_≡_, refl}
 use lib.ListN.{length}
 use Rattle.marking.specs.Marks.{cellsOf}
 use Rattle.linear.specs.Flat.{Becomes}
@@ -12,7 +12,9 @@ use Rattle.system.proofs.fill_system.Statement.{statement}
 use Rattle.system.proofs.fill_system.Tie as tie
 
 abbrev Inv-loop : tie.InvT-loop
-Inv-loop stay moved totals n marks scratch₀ x₀ scratch x = (x ≤ n) × (length scratch ≡ length scratch₀) × ((least : ℕ) → Marks (cellsOf n least stay moved) marks → Becomes x (width n) (systemOf (cellsOf n least stay moved) (totalOf totals)) scratch₀ scratch)
+Inv-loop stay moved totals n marks scratch₀ x₀ scratch x =
+    (x ≤ n) × (length scratch ≡ length scratch₀)
+    × ((least : ℕ) → Marks (cellsOf n least stay moved) marks → Becomes x (width n) (systemOf (cellsOf n least stay moved) (totalOf totals)) scratch₀ scratch)
 
 abbrev μ-loop : tie.MeasureT-loop
 μ-loop stay moved totals n marks scratch₀ x₀ scratch x = n - x
@@ -20,34 +22,24 @@ abbrev μ-loop : tie.MeasureT-loop
 loop-holds : tie.Need-loop-holds Inv-loop μ-loop
 loop-holds c = (omega arith, refl, λ least m. rows-none)
 
-mul-fill-row : tie.Need-mul-fill-row Inv-loop μ-loop
-mul-fill-row c = omega arith
-
-shared-slice-read-fill-row : tie.Need-shared-slice-read-fill-row Inv-loop μ-loop
-shared-slice-read-fill-row c = omega arith
-
 fill-row-requires : tie.Need-fill-row-requires Inv-loop μ-loop
-fill-row-requires c κs = (c .before .before .before .before .before .before .before .before .pre .0, omega arith, omega arith)
-
-add-x : tie.Need-add-x Inv-loop μ-loop
-add-x c = omega arith
-
-loop-less : tie.Need-loop-less Inv-loop μ-loop
-loop-less c = omega arith
+fill-row-requires c κs =
+    let at-start : tie.Start Inv-loop μ-loop = search in
+    (at-start .pre .0, omega arith, omega arith)
 
 loop-again : tie.Need-loop-again Inv-loop μ-loop
-loop-again c = (
-  omega arith,
-  omega arith,
-  λ least m. rows-more _ _ _ _ _ _ (c .before .before .before .before .before .before .loop .inv .2 least m) (c .before .before .fill-row .ensures least (m .numbers (c .before .before .before .before .before .before .loop .x) (omega arith))),
-)
-
-same-length : tie.Need-same-length Inv-loop μ-loop
-same-length c = omega arith
+loop-again c =
+    let at-loop : tie.At-loop Inv-loop μ-loop = search in (
+      omega arith,
+      omega arith,
+      λ least m. rows-more _ _ _ _ _ _ (at-loop .loop .inv .2 least m)
+          (c .before .before .fill-row .ensures least (m .numbers (at-loop .loop .x) (omega arith))),
+    )
 
 returns : tie.Need-returns Inv-loop μ-loop
 returns c least m =
-    let done : c .before .loop .x ≡ c .before .before .before .before .before .before .args .n = omega arith in
+    let at-start : tie.Start Inv-loop μ-loop = search in
+    let done : c .before .loop .x ≡ at-start .args .n = omega arith in
     rw done at (c .before .loop .inv .2 least m)
 
 pub fill-system-spec : {M : Type 1} → statement M
@@ -57,11 +49,11 @@ fill-system-spec =
     Inv-loop
     μ-loop
     loop-holds
-    mul-fill-row
-    shared-slice-read-fill-row
+    (λ c. omega arith)
+    (λ c. omega arith)
     fill-row-requires
-    add-x
-    loop-less
+    (λ c. omega arith)
+    (λ c. omega arith)
     loop-again
-    same-length
+    (λ c. omega arith)
     returns)

@@ -15,15 +15,20 @@ add-at-requires c κs =
 
 add-at-requires-2 : tie.Need-add-at-requires-2
 add-at-requires-2 c κs =
-    let a = c .before .before .before .before .args in
-    let p = c .before .before .before .before .pre in
-    rw (c .before .before .add-at .ensures) (simp length-set (p .1), omega arith, omega arith, totals-second (a .t .now) (change (a .from) (a .to)) (omega (arith, change-size (a .from) (a .to))) (a .a) (a .b) (p .4) (p .1))
-
-same-length : tie.Need-same-length
-same-length c = search needs
+    let at-start : tie.Start = search in
+    let a = at-start .args in
+    let p = at-start .pre in
+    rw (c .before .before .add-at .ensures) (
+      simp length-set (p .1),
+      omega arith,
+      omega arith,
+      totals-second (a .t .now) (change (a .from) (a .to)) (omega (arith, change-size (a .from) (a .to))) (a .a) (a .b) (p .4) (p .1),
+    )
 
 returns : tie.Need-returns
-returns c = rw (change-neg, ← c .before .before .before .before .add-at .ensures, c .before .add-at2 .ensures)
+returns c =
+    let at-add-at : tie.After-add-at = search in
+    rw (change-neg, ← at-add-at .add-at .ensures, c .before .add-at2 .ensures)
 
 pub add-totals-spec : {M : Type 1} → statement M
-add-totals-spec = tie.close (tie.spec add-at-requires add-at-requires-2 same-length returns)
+add-totals-spec = tie.close (tie.spec add-at-requires add-at-requires-2 (λ c. search needs) returns)

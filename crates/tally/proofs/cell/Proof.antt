@@ -14,8 +14,5 @@ add-result c =
     let m = mul-le-mul {n₁ = a .i} {m₁ = a .n} {n₂ = 256} {m₂ = 256} (omega arith) (omega arith) in
     omega arith
 
-returns : tie.Need-returns
-returns c = search needs
-
 pub cell-spec : {M : Type 1} → statement M
-cell-spec = tie.close (tie.spec mul-result add-result returns)
+cell-spec = tie.close (tie.spec mul-result add-result (λ c. search needs))

@@ -24,6 +24,10 @@ abbrev put-digits-below : ℕ → In 1 put-digits-kinds.ps
 put-digits-below t =
     and 1 put-digits-kinds.ps (falls 1 put-digits-kinds.ps _<_ μ-put-digits t) put-digits.Pre
 
+-- the place where a call with measure t begins
+abbrev Start : ℕ → Type 0
+Start t = put-digits-lts.Start (put-digits-below t, put-digits.Post, hex-digit-reads.Asked, hex-digit-reads.Learnt) (put-digits-at t) put-digits.Post
+
 put-digits-returns : (t : ℕ) → put-digits-lts.Need-returns (
   put-digits-below t,
   put-digits.Post,
@@ -63,9 +67,10 @@ put-digits-slice-write-out : (t : ℕ) → put-digits-lts.Need-slice-write-out (
   hex-digit-reads.Learnt,
 ) (put-digits-at t) put-digits.Post
 put-digits-slice-write-out t c =
-    let a = c .before .before .before .before .before .before .before .args in
+    let at-start : Start t = search in
+    let a = at-start .args in
     let p = c .before .before .before .put-digits .ensures in
-    let r = c .before .before .before .before .before .before .before .pre .1 in
+    let r = at-start .pre .1 in
     let h : 0 < a .k = omega arith in
     omega (arith, length-hex (a .k - 1) (a .w / 16), p .next-is, put-length (a .out .now) (a .at) (hexDigits (a .k - 1) (a .w / 16)) _ _ p)
 
@@ -76,9 +81,10 @@ put-digits-add-result : (t : ℕ) → put-digits-lts.Need-add-result (
   hex-digit-reads.Learnt,
 ) (put-digits-at t) put-digits.Post
 put-digits-add-result t c =
-    let a = c .before .before .before .before .before .before .before .args in
+    let at-start : Start t = search in
+    let a = at-start .args in
     let p = c .before .before .before .put-digits .ensures in
-    let r = c .before .before .before .before .before .before .before .pre .1 in
+    let r = at-start .pre .1 in
     let h : 0 < a .k = omega arith in
     omega (arith, length-hex (a .k - 1) (a .w / 16), p .next-is, put-length (a .out .now) (a .at) (hexDigits (a .k - 1) (a .w / 16)) _ _ p)
 
@@ -89,9 +95,11 @@ put-digits-same-length : (t : ℕ) → put-digits-lts.Need-same-length (
   hex-digit-reads.Learnt,
 ) (put-digits-at t) put-digits.Post
 put-digits-same-length t c =
-    let a = c .before .before .before .before .before .before .before .args in
+    let at-start : Start t = search in
+    let a = at-start .args in
     let p = c .before .before .before .put-digits .ensures in
-    length-set (c .before .before .before .put-digits .last .0) (c .before .before .before .put-digits .result) (c .hex-digit .result) ∙ put-length (a .out .now) (a .at) (hexDigits (a .k - 1) (a .w / 16)) _ _ p
+    length-set (c .before .before .before .put-digits .last .0) (c .before .before .before .put-digits .result) (c .hex-digit .result)
+    ∙ put-length (a .out .now) (a .at) (hexDigits (a .k - 1) (a .w / 16)) _ _ p
 
 put-digits-returns-2 : (t : ℕ) → put-digits-lts.Need-returns-2 (
   put-digits-below t,
@@ -100,10 +108,13 @@ put-digits-returns-2 : (t : ℕ) → put-digits-lts.Need-returns-2 (
   hex-digit-reads.Learnt,
 ) (put-digits-at t) put-digits.Post
 put-digits-returns-2 t c =
-    let a = c .before .before .before .before .before .before .before .args in
+    let at-start : Start t = search in
+    let a = at-start .args in
     let h : 0 < a .k = omega arith in
-    subst (λ (x : ℕ). Put (a .out .now) (a .at) (hexDigits (a .k) (a .w)) (c .before .before .before .put-digits .result + 1) (set (c .before .before .before .put-digits .last .0) (c .before .before .before .put-digits .result) x)) (sym (c .hex-digit .ensures))
-    (put-hex-more (a .out .now) (c .before .before .before .put-digits .last .0) (a .at) (c .before .before .before .put-digits .result) (a .w) (a .k) h (c .before .before .before .put-digits .ensures))
+    subst (λ (x : ℕ). Put (a .out .now) (a .at) (hexDigits (a .k) (a .w)) (c .before .before .before .put-digits .result + 1)
+    (set (c .before .before .before .put-digits .last .0) (c .before .before .before .put-digits .result) x)) (sym (c .hex-digit .ensures))
+    (put-hex-more (a .out .now) (c .before .before .before .put-digits .last .0) (a .at) (c .before .before .before .put-digits .result) (a .w) (a .k) h
+    (c .before .before .before .put-digits .ensures))
 
 pub +put-digits-spec : {M : Type 1} → statement M
 +put-digits-spec = close μ-put-digits λ t. put-digits-lts.spec (

@@ -44,13 +44,15 @@ put-number-slice-write-out : (t : ℕ) → put-number-lts.Need-slice-write-out (
   put-number-below t,
   put-number.Post,
 ) (put-number-at t) put-number.Post
-put-number-slice-write-out t c = let a = c .before .before .args in let h : a .n < 10 = c .if1 .taken in let r = c .before .before .pre .1 in omega (arith, length-one (a .n) h)
+put-number-slice-write-out t c =
+    let a = c .before .before .args in let h : a .n < 10 = c .if1 .taken in let r = c .before .before .pre .1 in omega (arith, length-one (a .n) h)
 
 put-number-add-result : (t : ℕ) → put-number-lts.Need-add-result (
   put-number-below t,
   put-number.Post,
 ) (put-number-at t) put-number.Post
-put-number-add-result t c = let a = c .before .before .args in let h : a .n < 10 = c .if1 .taken in let r = c .before .before .pre .1 in omega (arith, length-one (a .n) h)
+put-number-add-result t c =
+    let a = c .before .before .args in let h : a .n < 10 = c .if1 .taken in let r = c .before .before .pre .1 in omega (arith, length-one (a .n) h)
 
 put-number-same-length : (t : ℕ) → put-number-lts.Need-same-length (
   put-number-below t,
@@ -70,7 +72,9 @@ put-number-put-number-requires : (t : ℕ) → put-number-lts.Need-put-number-re
   put-number-below t,
   put-number.Post,
 ) (put-number-at t) put-number.Post
-put-number-put-number-requires t c κs = let a = c .before .before .before .args in let h : 10 ≤ a .n = c .before .if1 .left in let e = c .before .before .before .pre .0 in let r = c .before .before .before .pre .1 in (omega arith, omega (arith, length-more (a .n) h))
+put-number-put-number-requires t c κs =
+    let a = c .before .before .before .args in let h : 10 ≤ a .n = c .before .if1 .left in let e = c .before .before .before .pre .0 in
+    let r = c .before .before .before .pre .1 in (omega arith, omega (arith, length-more (a .n) h))
 
 put-number-add-out-2 : (t : ℕ) → put-number-lts.Need-add-out-2 (
   put-number-below t,
@@ -113,7 +117,8 @@ put-number-same-length-2 : (t : ℕ) → put-number-lts.Need-same-length-2 (
 put-number-same-length-2 t c =
     let a = c .before .before .before .before .before .before .args in
     let p = c .before .before .put-number .ensures in
-    length-set (c .before .before .put-number .last .0) (c .before .before .put-number .result) (48 + a .n % 10) ∙ put-length (a .out .now) (a .at) (decimal (a .n / 10)) _ _ p
+    length-set (c .before .before .put-number .last .0) (c .before .before .put-number .result) (48 + a .n % 10)
+    ∙ put-length (a .out .now) (a .at) (decimal (a .n / 10)) _ _ p
 
 put-number-returns-2 : (t : ℕ) → put-number-lts.Need-returns-2 (
   put-number-below t,
@@ -122,7 +127,8 @@ put-number-returns-2 : (t : ℕ) → put-number-lts.Need-returns-2 (
 put-number-returns-2 t c =
     let a = c .before .before .before .before .before .before .args in
     let h : 10 ≤ a .n = c .before .before .before .before .if1 .left in
-    put-more (a .out .now) (c .before .before .put-number .last .0) (a .at) (c .before .before .put-number .result) (a .n) h (c .before .before .put-number .ensures)
+    put-more (a .out .now) (c .before .before .put-number .last .0) (a .at) (c .before .before .put-number .result) (a .n) h
+    (c .before .before .put-number .ensures)
 
 pub +put-number-spec : {M : Type 1} → statement M
 +put-number-spec = close μ-put-number λ t. put-number-lts.spec (

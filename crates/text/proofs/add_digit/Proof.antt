@@ -5,20 +5,25 @@ use borrow.Author.Needs.{needs}
 use Rattle.text.proofs.add_digit.Statement.{statement}
 use Rattle.text.proofs.add_digit.Tie as tie
 
-takes-requires : tie.Need-takes-requires
-takes-requires c κs = search needs
-
 mul-t4 : tie.Need-mul-t4
-mul-t4 c = let a = c .before .before .before .args in let h = takes-below (a .s .begun) (a .s .value) (a .d) (sym (c .before .before .takes .ensures) ∙ c .before .if1 .taken) in omega arith
+mul-t4 c =
+    let a = c .before .before .before .args in
+    let h = takes-below (a .s .begun) (a .s .value) (a .d) (sym (c .before .before .takes .ensures) ∙ c .before .if1 .taken) in omega arith
 
 add-t5 : tie.Need-add-t5
-add-t5 c = let a = c .before .before .before .args in let h = takes-below (a .s .begun) (a .s .value) (a .d) (sym (c .before .before .takes .ensures) ∙ c .before .if1 .taken) in omega arith
+add-t5 c =
+    let a = c .before .before .before .args in
+    let h = takes-below (a .s .begun) (a .s .value) (a .d) (sym (c .before .before .takes .ensures) ∙ c .before .if1 .taken) in omega arith
 
 returns : tie.Need-returns
-returns c = sym (digit-on (c .before .before .before .args .s) (c .before .before .before .args .d) (sym (c .before .before .takes .ensures) ∙ c .before .if1 .taken))
+returns c =
+    let at-start : tie.Start = search in
+    sym (digit-on (at-start .args .s) (at-start .args .d) (sym (c .before .before .takes .ensures) ∙ c .before .if1 .taken))
 
 returns-2 : tie.Need-returns-2
-returns-2 c = sym (digit-off (c .before .before .args .s) (c .before .before .args .d) (sym (c .before .takes .ensures) ∙ c .if1 .left))
+returns-2 c =
+    let at-start : tie.Start = search in
+    sym (digit-off (at-start .args .s) (at-start .args .d) (sym (c .before .takes .ensures) ∙ c .if1 .left))
 
 pub add-digit-spec : {M : Type 1} → statement M
-add-digit-spec = tie.close (tie.spec takes-requires mul-t4 add-t5 returns returns-2)
+add-digit-spec = tie.close (tie.spec (λ c κs. search needs) mul-t4 add-t5 returns returns-2)

@@ -8,17 +8,16 @@ use Rattle.text.proofs.Steps.{end-off, end-on}
 use Rattle.text.proofs.end_number.Statement.{statement}
 use Rattle.text.proofs.end_number.Tie as tie
 
-after-requires : tie.Need-after-requires
-after-requires c κs = search needs
-
-add-t6 : tie.Need-add-t6
-add-t6 c = omega arith
-
 returns : tie.Need-returns
-returns c = let a = c .before .before .before .before .args in sym (end-on (a .s) (a .b) (ap (λ (x : ℕ). a .s .begun && eqb (a .b) x) (sym (c .before .before .before .after .ensures)) ∙ c .before .if1 .taken))
+returns c =
+    let at-start : tie.Start = search in
+    let a = at-start .args in
+    sym (end-on (a .s) (a .b) (ap (λ (x : ℕ). a .s .begun && eqb (a .b) x) (sym (c .before .before .before .after .ensures)) ∙ c .before .if1 .taken))
 
 returns-2 : tie.Need-returns-2
-returns-2 c = let a = c .before .before .before .args in sym (end-off (a .s) (a .b) (ap (λ (x : ℕ). a .s .begun && eqb (a .b) x) (sym (c .before .before .after .ensures)) ∙ c .if1 .left))
+returns-2 c =
+    let a = c .before .before .before .args in
+    sym (end-off (a .s) (a .b) (ap (λ (x : ℕ). a .s .begun && eqb (a .b) x) (sym (c .before .before .after .ensures)) ∙ c .if1 .left))
 
 pub end-number-spec : {M : Type 1} → statement M
-end-number-spec = tie.close (tie.spec after-requires add-t6 returns returns-2)
+end-number-spec = tie.close (tie.spec (λ c κs. search needs) (λ c. omega arith) returns returns-2)

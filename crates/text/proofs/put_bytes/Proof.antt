@@ -16,32 +16,14 @@ abbrev μ-loop : tie.MeasureT-loop
 loop-holds : tie.Need-loop-holds Inv-loop μ-loop
 loop-holds c = let a = c .args in let z : a .at + 0 ≡ a .at = omega arith in (omega arith, refl, ap (λ (j : ℕ). sets (a .out .now) j (a .bytes .now)) z)
 
-shared-slice-read-out : tie.Need-shared-slice-read-out Inv-loop μ-loop
-shared-slice-read-out c = omega arith
-
-add-out : tie.Need-add-out Inv-loop μ-loop
-add-out c = omega arith
-
-slice-write-out : tie.Need-slice-write-out Inv-loop μ-loop
-slice-write-out c = omega arith
-
-add-i : tie.Need-add-i Inv-loop μ-loop
-add-i c = omega arith
-
-loop-less : tie.Need-loop-less Inv-loop μ-loop
-loop-less c = omega arith
-
 loop-again : tie.Need-loop-again Inv-loop μ-loop
 loop-again c =
     let l = c .before .before .loop in
-    let a = c .before .before .before .args in
-    (omega arith, length-set (l .out) (a .at + l .i) (getD (a .bytes .now) (l .i) 0) ∙ l .inv .1, bytes-step (l .out) (a .at) (l .i) (a .bytes .now) (omega arith) ∙ l .inv .2)
-
-add-result : tie.Need-add-result Inv-loop μ-loop
-add-result c = omega arith
-
-same-length : tie.Need-same-length Inv-loop μ-loop
-same-length c = c .before .loop .inv .1
+    let a = c .before .before .before .args in (
+      omega arith,
+      length-set (l .out) (a .at + l .i) (getD (a .bytes .now) (l .i) 0) ∙ l .inv .1,
+      bytes-step (l .out) (a .at) (l .i) (a .bytes .now) (omega arith) ∙ l .inv .2,
+    )
 
 returns : tie.Need-returns Inv-loop μ-loop
 returns c =
@@ -56,12 +38,12 @@ put-bytes-spec =
     Inv-loop
     μ-loop
     loop-holds
-    shared-slice-read-out
-    add-out
-    slice-write-out
-    add-i
-    loop-less
+    (λ c. omega arith)
+    (λ c. omega arith)
+    (λ c. omega arith)
+    (λ c. omega arith)
+    (λ c. omega arith)
     loop-again
-    add-result
-    same-length
+    (λ c. omega arith)
+    (λ c. c .before .loop .inv .1)
     returns)

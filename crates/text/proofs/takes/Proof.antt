@@ -6,11 +6,8 @@ use borrow.Author.Needs.{needs}
 use Rattle.text.proofs.takes.Statement.{statement}
 use Rattle.text.proofs.takes.Tie as tie
 
-sub-result : tie.Need-sub-result
-sub-result c = search needs
-
 returns : tie.Need-returns
 returns c = ap (λ (t : Bool). not (c .args .begun && eqb (c .args .value) 0) && t) (fits-test (c .args .value) (c .args .d) (c .pre))
 
 pub takes-spec : {M : Type 1} → statement M
-takes-spec = tie.close (tie.spec sub-result returns)
+takes-spec = tie.close (tie.spec (λ c. search needs) returns)

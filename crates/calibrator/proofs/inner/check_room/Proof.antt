@@ -6,9 +6,6 @@ use borrow.Author.Needs.{needs}
 use Rattle.calibrator.proofs.inner.check_room.Statement.{statement}
 use Rattle.calibrator.proofs.inner.check_room.Tie as tie
 
-is-valid-requires : tie.Need-is-valid-requires
-is-valid-requires c κs = search needs
-
 returns : tie.Need-returns
 returns c = rw (← c .before .is-valid .ensures, not-true (c .before .is-valid .result) (c .if1 .taken))
 
@@ -21,16 +18,32 @@ wrong-lengths-requires c κs =
     omega (arith, v .states-most, c .state-count .ensures)
 
 returns-2 : tie.Need-returns-2
-returns-2 c = rw (← c .before .before .before .before .is-valid .ensures, not-false (c .before .before .before .before .is-valid .result) (c .before .before .before .if1 .left), ← c .before .before .state-count .ensures, ← c .before .wrong-lengths .ensures, c .if2 .taken)
+returns-2 c =
+    let at-is-valid : tie.After-is-valid = search in
+    rw (
+      ← at-is-valid .is-valid .ensures,
+      not-false (at-is-valid .is-valid .result) (c .before .before .before .if1 .left),
+      ← c .before .before .state-count .ensures,
+      ← c .before .wrong-lengths .ensures,
+      c .if2 .taken,
+    )
 
 returns-3 : tie.Need-returns-3
-returns-3 c = rw (← c .before .before .before .before .is-valid .ensures, not-false (c .before .before .before .before .is-valid .result) (c .before .before .before .if1 .left), ← c .before .before .state-count .ensures, ← c .before .wrong-lengths .ensures, c .if2 .left)
+returns-3 c =
+    let at-is-valid : tie.After-is-valid = search in
+    rw (
+      ← at-is-valid .is-valid .ensures,
+      not-false (at-is-valid .is-valid .result) (c .before .before .before .if1 .left),
+      ← c .before .before .state-count .ensures,
+      ← c .before .wrong-lengths .ensures,
+      c .if2 .left,
+    )
 
 pub check-room-spec : {M : Type 1} → statement M
 check-room-spec =
     tie.close
     (tie.spec
-    is-valid-requires
+    (λ c κs. search needs)
     returns
     state-count-requires
     wrong-lengths-requires

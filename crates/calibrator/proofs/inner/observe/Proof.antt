@@ -1,3 +1,6 @@
+-- `calibrator::inner::observe` meets its contract. It ends in four ways, each a law of proofs/Ways.antt: the tables or the configuration do not fit
+-- (`way-no-room`), there is no quote before this one (`way-first`), the pair of quotes is refused (`way-judged`), and the pair goes on to `next_quote`
+-- (`way-next`). No loop. What a way needs of the configuration is `room-known`, from `check_room`'s word; of the two quotes `pair-known`, from `judge_pair`'s.
 use mathlib.Core.Path.{sym, _∙_}
 use Rattle.calibrator.proofs.Room.{room-known}
 use Rattle.calibrator.proofs.Ways.{pair-known, way-no-room, way-first, way-judged, way-next}
@@ -5,94 +8,93 @@ use borrow.Author.Needs.{needs}
 use Rattle.calibrator.proofs.inner.observe.Statement.{statement}
 use Rattle.calibrator.proofs.inner.observe.Tie as tie
 
-check-room-requires : tie.Need-check-room-requires
-check-room-requires c κs = search needs
-
-enum-told : tie.Need-enum-told
-enum-told c = search needs
-
-enum-told-2 : tie.Need-enum-told-2
-enum-told-2 c = search needs
-
 returns : tie.Need-returns
 returns c =
-    let a = c .before .before .before .before .before .args in
+    let at-start : tie.Start = search in
+    let a = at-start .args in
     rw (c .enum-told2 .given .1)
-    (way-no-room (a .config) (a .rec .previous) (a .rec .counters) (a .stay .now) (a .moved .now) (a .move-half-ticks .now) (a .quote) _ (sym (c .before .before .check-room .ensures) ∙ c .enum-told2 .given .1))
-
-enum-known-previous : tie.Need-enum-known-previous
-enum-known-previous c = search needs
-
-enum-told-3 : tie.Need-enum-told-3
-enum-told-3 c = search needs
+    (way-no-room (a .config) (a .rec .previous) (a .rec .counters) (a .stay .now) (a .moved .now) (a .move-half-ticks .now) (a .quote) _
+    (sym (c .before .before .check-room .ensures) ∙ c .enum-told2 .given .1))
 
 first-quote-requires : tie.Need-first-quote-requires
 first-quote-requires c κs =
-    let a = c .before .before .before .before .before .before .before .args in
-    room-known (a .config) _ _ _ (sym (c .before .before .before .before .check-room .ensures) ∙ c .before .before .enum-told .given .1) .0 .tick-least
+    let at-check-room : tie.After-check-room = search in
+    let at-start : tie.Start = search in
+    let a = at-start .args in
+    room-known (a .config) _ _ _ (sym (at-check-room .check-room .ensures) ∙ c .before .before .enum-told .given .1) .0 .tick-least
 
 returns-2 : tie.Need-returns-2
 returns-2 c =
-    let a = c .before .before .before .before .before .before .before .before .args in
-    way-first (a .config) (a .rec .previous) (a .rec .counters) (a .stay .now) (a .moved .now) (a .move-half-ticks .now) (a .quote) (sym (c .before .before .before .before .before .check-room .ensures) ∙ c .before .before .before .enum-told .given .1) (c .before .enum-told3 .given .1) (c .first-quote .result) (c .first-quote .ensures)
+    let at-check-room : tie.After-check-room = search in
+    let at-start : tie.Start = search in
+    let a = at-start .args in
+    way-first (a .config) (a .rec .previous) (a .rec .counters) (a .stay .now) (a .moved .now) (a .move-half-ticks .now) (a .quote)
+    (sym (at-check-room .check-room .ensures) ∙ c .before .before .before .enum-told .given .1) (c .before .enum-told3 .given .1) (c .first-quote .result)
+    (c .first-quote .ensures)
 
 judge-pair-requires : tie.Need-judge-pair-requires
 judge-pair-requires c κs =
-    let a = c .before .before .before .before .before .before .before .before .args in
-    room-known (a .config) _ _ _ (sym (c .before .before .before .before .before .check-room .ensures) ∙ c .before .before .before .enum-told .given .1) .0 .tick-least
-
-enum-told-4 : tie.Need-enum-told-4
-enum-told-4 c = search needs
-
-enum-told-5 : tie.Need-enum-told-5
-enum-told-5 c = search needs
+    let at-check-room : tie.After-check-room = search in
+    let at-start : tie.Start = search in
+    let a = at-start .args in
+    room-known (a .config) _ _ _ (sym (at-check-room .check-room .ensures) ∙ c .before .before .before .enum-told .given .1) .0 .tick-least
 
 returns-3 : tie.Need-returns-3
 returns-3 c =
-    let a = c .before .before .before .before .before .before .before .before .before .before .before .args in
+    let at-previous : tie.After-previous = search in
+    let at-enum-told : tie.After-enum-told = search in
+    let at-check-room : tie.After-check-room = search in
+    let at-start : tie.Start = search in
+    let a = at-start .args in
     rw (c .enum-told5 .given .1)
-    (way-judged (a .config) (a .rec .previous) (a .rec .counters) (a .stay .now) (a .moved .now) (a .move-half-ticks .now) (a .quote) (sym (c .before .before .before .before .before .before .before .before .check-room .ensures) ∙ c .before .before .before .before .before .before .enum-told .given .1) _ (c .before .before .before .before .previous .given .1) _ (sym (c .before .before .judge-pair .ensures) ∙ c .enum-told5 .given .1))
+    (way-judged (a .config) (a .rec .previous) (a .rec .counters) (a .stay .now) (a .moved .now) (a .move-half-ticks .now) (a .quote)
+    (sym (at-check-room .check-room .ensures) ∙ at-enum-told .enum-told .given .1) _ (at-previous .previous .given .1) _
+    (sym (c .before .before .judge-pair .ensures) ∙ c .enum-told5 .given .1))
 
 next-quote-requires : tie.Need-next-quote-requires
 next-quote-requires c κs =
-    let a = c .before .before .before .before .before .before .before .before .before .before .before .before .before .before .args in
-    let v = room-known (a .config) _ _ _ (sym (c .before .before .before .before .before .before .before .before .before .before .before .check-room .ensures) ∙ c .before .before .before .before .before .before .before .before .before .enum-told .given .1) in
-    let p = pair-known (a .config) _ (a .quote) (sym (c .before .before .before .before .before .judge-pair .ensures) ∙ c .before .before .before .enum-told4 .given .1) in
+    let at-judge-pair : tie.After-judge-pair = search in
+    let at-enum-told : tie.After-enum-told = search in
+    let at-check-room : tie.After-check-room = search in
+    let at-start : tie.Start = search in
+    let a = at-start .args in
+    let v = room-known (a .config) _ _ _ (sym (at-check-room .check-room .ensures) ∙ at-enum-told .enum-told .given .1) in
+    let p = pair-known (a .config) _ (a .quote) (sym (at-judge-pair .judge-pair .ensures) ∙ c .before .before .before .enum-told4 .given .1) in
     (v .0, p .0, p .1, p .2, v .1)
-
-same-length : tie.Need-same-length
-same-length c = search needs
-
-same-length-2 : tie.Need-same-length-2
-same-length-2 c = search needs
-
-same-length-3 : tie.Need-same-length-3
-same-length-3 c = search needs
 
 returns-4 : tie.Need-returns-4
 returns-4 c =
-    let a = c .before .before .before .before .before .before .before .before .before .before .before .before .before .before .before .before .before .before .before .before .args in
-    c .before .before .before .before .before .next-quote .ensures
-    ∙ way-next (a .config) (a .rec .previous) (a .rec .counters) (a .stay .now) (a .moved .now) (a .move-half-ticks .now) (a .quote) (sym (c .before .before .before .before .before .before .before .before .before .before .before .before .before .before .before .before .before .check-room .ensures) ∙ c .before .before .before .before .before .before .before .before .before .before .before .before .before .before .before .enum-told .given .1) _ (c .before .before .before .before .before .before .before .before .before .before .before .before .before .previous .given .1) (sym (c .before .before .before .before .before .before .before .before .before .before .before .judge-pair .ensures) ∙ c .before .before .before .before .before .before .before .before .before .enum-told4 .given .1)
+    let at-next-quote : tie.After-next-quote = search in
+    let at-enum-told4 : tie.After-enum-told4 = search in
+    let at-judge-pair : tie.After-judge-pair = search in
+    let at-previous : tie.After-previous = search in
+    let at-enum-told : tie.After-enum-told = search in
+    let at-check-room : tie.After-check-room = search in
+    let at-start : tie.Start = search in
+    let a = at-start .args in
+    at-next-quote .next-quote .ensures
+    ∙ way-next (a .config) (a .rec .previous) (a .rec .counters) (a .stay .now) (a .moved .now) (a .move-half-ticks .now) (a .quote)
+    (sym (at-check-room .check-room .ensures) ∙ at-enum-told .enum-told .given .1) _ (at-previous .previous .given .1)
+    (sym (at-judge-pair .judge-pair .ensures) ∙ at-enum-told4 .enum-told4 .given .1)
 
 pub observe-spec : {M : Type 1} → statement M
 observe-spec =
     tie.close
     (tie.spec
-    check-room-requires
-    enum-told
-    enum-told-2
+    (λ c κs. search needs)
+    (λ c. search needs)
+    (λ c. search needs)
     returns
-    enum-known-previous
-    enum-told-3
+    (λ c. search needs)
+    (λ c. search needs)
     first-quote-requires
     returns-2
     judge-pair-requires
-    enum-told-4
-    enum-told-5
+    (λ c. search needs)
+    (λ c. search needs)
     returns-3
     next-quote-requires
-    same-length
-    same-length-2
-    same-length-3
+    (λ c. search needs)
+    (λ c. search needs)
+    (λ c. search needs)
     returns-4)

@@ -3,14 +3,8 @@ use borrow.Author.Needs.{needs}
 use Rattle.calibrator.proofs.inner.with_skip.Statement.{statement}
 use Rattle.calibrator.proofs.inner.with_skip.Tie as tie
 
-enum-told : tie.Need-enum-told
-enum-told c = search needs
-
 add-next : tie.Need-add-next
 add-next c = let p = rw (c .before .enum-told .given .1) at (c .before .before .before .pre) in omega arith
-
-enum-told-2 : tie.Need-enum-told-2
-enum-told-2 c = search needs
 
 add-next-2 : tie.Need-add-next-2
 add-next-2 c = let p = rw (c .before .enum-told2 .given .1) at (c .before .before .before .pre) in omega arith
@@ -22,4 +16,4 @@ returns-2 : tie.Need-returns-2
 returns-2 c = rw (c .before .enum-told2 .given .1)
 
 pub with-skip-spec : {M : Type 1} → statement M
-with-skip-spec = tie.close (tie.spec enum-told add-next enum-told-2 add-next-2 returns returns-2)
+with-skip-spec = tie.close (tie.spec (λ c. search needs) add-next (λ c. search needs) add-next-2 returns returns-2)

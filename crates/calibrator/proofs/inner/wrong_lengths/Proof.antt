@@ -6,8 +6,5 @@ use Rattle.calibrator.proofs.inner.wrong_lengths.Tie as tie
 mul-cells : tie.Need-mul-cells
 mul-cells c = fits-mul 256 256 (c .pre) (c .pre) tt
 
-returns : tie.Need-returns
-returns c = search needs
-
 pub wrong-lengths-spec : {M : Type 1} → statement M
-wrong-lengths-spec = tie.close (tie.spec mul-cells returns)
+wrong-lengths-spec = tie.close (tie.spec mul-cells (λ c. search needs))

@@ -4,15 +4,6 @@ use borrow.Author.Needs.{needs}
 use Rattle.evening.proofs.inner.check_window.Statement.{statement}
 use Rattle.evening.proofs.inner.check_window.Tie as tie
 
-window-of-requires : tie.Need-window-of-requires
-window-of-requires c κs = search needs
-
-enum-told : tie.Need-enum-told
-enum-told c = search needs
-
-enum-known-r : tie.Need-enum-known-r
-enum-known-r c = search needs
-
 returns : tie.Need-returns
 returns c = window-fine _ _ _ (sym (c .before .before .window-of .ensures) ∙ c .enum-told .given .1)
 
@@ -21,4 +12,4 @@ returns-2 c = window-refused _ _ _ (sym (c .before .before .before .window-of .e
 
 pub check-window-spec : {M : Type 1} → statement M
 check-window-spec =
-    tie.close (tie.spec window-of-requires enum-told enum-known-r returns returns-2)
+    tie.close (tie.spec (λ c κs. search needs) (λ c. search needs) (λ c. search needs) returns returns-2)

@@ -5,72 +5,51 @@ use borrow.Author.Needs.{needs}
 use Rattle.evening.proofs.inner.count_and_fit.Statement.{statement}
 use Rattle.evening.proofs.inner.count_and_fit.Tie as tie
 
-count-part-requires : tie.Need-count-part-requires
-count-part-requires c κs = search needs
-
-enum-known-observed : tie.Need-enum-known-observed
-enum-known-observed c = search needs
-
-new-requires : tie.Need-new-requires
-new-requires c κs = search needs
-
-enum-told : tie.Need-enum-told
-enum-told c = search needs
-
-fit-counts-requires : tie.Need-fit-counts-requires
-fit-counts-requires c κs = search needs
-
-same-length : tie.Need-same-length
-same-length c = search needs
-
-same-length-2 : tie.Need-same-length-2
-same-length-2 c = search needs
-
-same-length-3 : tie.Need-same-length-3
-same-length-3 c = search needs
-
 returns : tie.Need-returns
 returns c =
-    let a = c .before .before .before .before .before .before .before .before .before .before .before .before .before .before .before .before .before .before .before .before .before .before .before .before .before .before .before .before .args in
-    let room = (λ j. checkRoom (a .config) (c .before .before .before .before .before .before .before .before .before .before .before .before .before .before .before .before .before .before .stay .given j) (c .before .before .before .before .before .before .before .before .before .before .before .before .before .before .before .before .moved .given j) (c .before .before .before .before .before .before .before .before .before .before .before .before .before .before .move-half-ticks .given j)) ∙ c .before .before .before .before .before .before .before .before .before .before .before .before .before .before .before .before .before .before .before .before .before .before .before .before .before .before .before .before .pre .0 in
-    counted-refused (a .config) _ (a .model .now) (a .scratch .now) _ _ _ _ _ (c .before .before .before .before .before .before .before .before .before .before .before .before .before .before .before .before .before .before .before .count-part .ensures) (c .before .before .before .before .before .before .before .before .before .before .before .observed .given .1) (c .before .before .before .before .before .before .new .ensures) room
-
-same-length-4 : tie.Need-same-length-4
-same-length-4 c = search needs
-
-same-length-5 : tie.Need-same-length-5
-same-length-5 c = search needs
-
-same-length-6 : tie.Need-same-length-6
-same-length-6 c = search needs
-
-same-length-7 : tie.Need-same-length-7
-same-length-7 c = search needs
-
-same-length-8 : tie.Need-same-length-8
-same-length-8 c = search needs
+    let at-moved2 : tie.After-moved2 = search in
+    let at-new : tie.After-new = search in
+    let at-known-told : tie.After-known-told = search in
+    let at-observed : tie.After-observed = search in
+    let at-move-half-ticks : tie.After-move-half-ticks = search in
+    let at-moved : tie.After-moved = search in
+    let at-stay : tie.After-stay = search in
+    let at-count-part : tie.After-count-part = search in
+    let at-slice-known4 : tie.After-slice-known4 = search in
+    let at-slice-known : tie.After-slice-known = search in
+    let at-start : tie.Start = search in
+    let a = at-start .args in
+    let room = (λ j. checkRoom (a .config) (at-stay .stay .given j) (at-moved .moved .given j) (at-move-half-ticks .move-half-ticks .given j))
+    ∙ at-start .pre .0 in
+    counted-refused (a .config) _ (a .model .now) (a .scratch .now) _ _ _ _ _ (at-count-part .count-part .ensures) (at-observed .observed .given .1)
+    (at-new .new .ensures) room
 
 returns-2 : tie.Need-returns-2
 returns-2 c =
-    let a = c .before .before .before .before .before .before .before .before .before .before .before .before .before .before .before .before .before .before .before .before .before .before .before .before .before .before .before .args in
-    counted-fitted (a .config) _ (a .model .now) (a .scratch .now) _ _ _ _ _ _ (c .before .before .before .before .before .before .before .before .before .before .before .before .before .before .before .before .before .before .count-part .ensures) (c .before .before .before .before .before .before .before .before .before .before .enum-told .given .1) (c .before .before .before .before .fit-counts .ensures)
+    let at-fit-counts : tie.After-fit-counts = search in
+    let at-enum-told : tie.After-enum-told = search in
+    let at-count-part : tie.After-count-part = search in
+    let at-start : tie.Start = search in
+    let a = at-start .args in
+    counted-fitted (a .config) _ (a .model .now) (a .scratch .now) _ _ _ _ _ _ (at-count-part .count-part .ensures) (at-enum-told .enum-told .given .1)
+    (at-fit-counts .fit-counts .ensures)
 
 pub count-and-fit-spec : {M : Type 1} → statement M
 count-and-fit-spec =
     tie.close
     (tie.spec
-    count-part-requires
-    enum-known-observed
-    new-requires
-    enum-told
-    fit-counts-requires
-    same-length
-    same-length-2
-    same-length-3
+    (λ c κs. search needs)
+    (λ c. search needs)
+    (λ c κs. search needs)
+    (λ c. search needs)
+    (λ c κs. search needs)
+    (λ c. search needs)
+    (λ c. search needs)
+    (λ c. search needs)
     returns
-    same-length-4
-    same-length-5
-    same-length-6
-    same-length-7
-    same-length-8
+    (λ c. search needs)
+    (λ c. search needs)
+    (λ c. search needs)
+    (λ c. search needs)
+    (λ c. search needs)
     returns-2)

@@ -20,22 +20,13 @@ loop-holds c = (search needs, search needs, λ k h. absurd (omega arith))
 mul-scratch : tie.Need-mul-scratch Inv-loop μ-loop
 mul-scratch c = omega (arith, c .before .before .good)
 
-slice-write-scratch : tie.Need-slice-write-scratch Inv-loop μ-loop
-slice-write-scratch c = omega arith
-
-add-i : tie.Need-add-i Inv-loop μ-loop
-add-i c = omega arith
-
-loop-less : tie.Need-loop-less Inv-loop μ-loop
-loop-less c = simp length-set (omega arith)
-
 loop-again : tie.Need-loop-again Inv-loop μ-loop
 loop-again c =
-    let l = c .before .loop in
-    (simp length-set (omega arith), simp length-set (l .inv .1), filled-by (λ k. posZero) (l .scratch) (l .i) posZero posZero (c .loop-test .taken) refl (l .inv .2))
-
-same-length : tie.Need-same-length Inv-loop μ-loop
-same-length c = c .before .loop .inv .1
+    let l = c .before .loop in (
+      simp length-set (omega arith),
+      simp length-set (l .inv .1),
+      filled-by (λ k. posZero) (l .scratch) (l .i) posZero posZero (c .loop-test .taken) refl (l .inv .2),
+    )
 
 returns : tie.Need-returns Inv-loop μ-loop
 returns c =
@@ -51,9 +42,9 @@ clear-spec =
     μ-loop
     loop-holds
     mul-scratch
-    slice-write-scratch
-    add-i
-    loop-less
+    (λ c. omega arith)
+    (λ c. omega arith)
+    (λ c. simp length-set (omega arith))
     loop-again
-    same-length
+    (λ c. c .before .loop .inv .1)
     returns)

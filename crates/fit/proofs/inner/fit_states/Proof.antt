@@ -7,57 +7,41 @@ use borrow.Author.Needs.{needs}
 use Rattle.fit.proofs.inner.fit_states.Statement.{statement}
 use Rattle.fit.proofs.inner.fit_states.Tie as tie
 
-slice-aggregate-mark-no-price-move : tie.Need-slice-aggregate-mark-no-price-move
-slice-aggregate-mark-no-price-move c = search needs
-
-mark-no-price-move-requires : tie.Need-mark-no-price-move-requires
-mark-no-price-move-requires c κs = search needs
-
-slice-aggregate-has-calibrated : tie.Need-slice-aggregate-has-calibrated
-slice-aggregate-has-calibrated c = search needs
-
-has-calibrated-requires : tie.Need-has-calibrated-requires
-has-calibrated-requires c κs = search needs
-
 returns : tie.Need-returns
 returns c =
-    let a = c .before .before .before .before .before .before .before .before .before .before .before .args in
+    let at-mark-no-price-move : tie.After-mark-no-price-move = search in
+    let at-start : tie.Start = search in
+    let a = at-start .args in
     let G = givenIn (a .n) (a .buckets) (a .tick) (a .least) (a .stay .now) (a .moved .now) (a .totals .now) (a .mirrors .now) in
-    let m = marks-of (G .cells) _ _ (search needs) (c .before .before .before .before .mark-no-price-move .ensures) in
+    let m = marks-of (G .cells) _ _ (search needs) (at-mark-no-price-move .mark-no-price-move .ensures) in
     let u = sym (marked-used (G .cells) _ m) ∙ sym (c .before .has-calibrated .ensures) ∙ not-true _ (c .if1 .taken) in
     ends-none (a .rounds) (a .moves) G (a .model .now) u
 
-slice-aggregate-fit-marked : tie.Need-slice-aggregate-fit-marked
-slice-aggregate-fit-marked c = search needs
-
-fit-marked-requires : tie.Need-fit-marked-requires
-fit-marked-requires c κs = search needs
-
-same-length : tie.Need-same-length
-same-length c = search needs
-
-same-length-2 : tie.Need-same-length-2
-same-length-2 c = search needs
-
 returns-2 : tie.Need-returns-2
 returns-2 c =
-    let a = c .before .before .before .before .before .before .before .before .before .before .before .before .before .before .before .before .before .before .before .args in
+    let at-fit-marked : tie.After-fit-marked = search in
+    let at-else1 : tie.Else1 = search in
+    let at-has-calibrated : tie.After-has-calibrated = search in
+    let at-marks2 : tie.After-marks2 = search in
+    let at-mark-no-price-move : tie.After-mark-no-price-move = search in
+    let at-start : tie.Start = search in
+    let a = at-start .args in
     let G = givenIn (a .n) (a .buckets) (a .tick) (a .least) (a .stay .now) (a .moved .now) (a .totals .now) (a .mirrors .now) in
-    let m = marks-of (G .cells) _ _ (omega (arith, c .before .before .before .before .before .before .before .before .before .before .before .before .before .before .before .before .before .before .before .pre .0 .few, c .before .before .before .before .before .before .before .before .before .before .before .marks2 .given)) (c .before .before .before .before .before .before .before .before .before .before .before .before .mark-no-price-move .ensures) in
-    let u = sym (marked-used (G .cells) _ m) ∙ sym (c .before .before .before .before .before .before .before .before .before .has-calibrated .ensures) ∙ not-false _ (c .before .before .before .before .before .before .before .before .if1 .left) in
-    c .before .before .before .before .fit-marked .ensures (a .least) m u
+    let m = marks-of (G .cells) _ _ (omega (arith, at-start .pre .0 .few, at-marks2 .marks2 .given)) (at-mark-no-price-move .mark-no-price-move .ensures) in
+    let u = sym (marked-used (G .cells) _ m) ∙ sym (at-has-calibrated .has-calibrated .ensures) ∙ not-false _ (at-else1 .if1 .left) in
+    at-fit-marked .fit-marked .ensures (a .least) m u
 
 pub fit-states-spec : {M : Type 1} → statement M
 fit-states-spec =
     tie.close
     (tie.spec
-    slice-aggregate-mark-no-price-move
-    mark-no-price-move-requires
-    slice-aggregate-has-calibrated
-    has-calibrated-requires
+    (λ c. search needs)
+    (λ c κs. search needs)
+    (λ c. search needs)
+    (λ c κs. search needs)
     returns
-    slice-aggregate-fit-marked
-    fit-marked-requires
-    same-length
-    same-length-2
+    (λ c. search needs)
+    (λ c κs. search needs)
+    (λ c. search needs)
+    (λ c. search needs)
     returns-2)

@@ -19,23 +19,17 @@ abbrev μ-loop : tie.MeasureT-loop
 loop-holds : tie.Need-loop-holds Inv-loop μ-loop
 loop-holds c = (omega arith, some-none (λ k. eqb (getD (c .args .marks .now) k 0) 0))
 
-mul-if1 : tie.Need-mul-if1 Inv-loop μ-loop
-mul-if1 c = omega arith
-
-shared-slice-read-if1 : tie.Need-shared-slice-read-if1 Inv-loop μ-loop
-shared-slice-read-if1 c = omega arith
-
 returns : tie.Need-returns Inv-loop μ-loop
-returns c = sym (some-at (c .before .before .before .before .args .n) (λ k. eqb (getD (c .before .before .before .before .args .marks .now) k 0) 0) (c .before .before .before .loop .i) (omega arith) (eq-eqb _ _ (c .if1 .taken)))
-
-add-i : tie.Need-add-i Inv-loop μ-loop
-add-i c = omega arith
-
-loop-less : tie.Need-loop-less Inv-loop μ-loop
-loop-less c = omega arith
+returns c =
+    let at-start : tie.Start Inv-loop μ-loop = search in
+    sym (some-at (at-start .args .n) (λ k. eqb (getD (at-start .args .marks .now) k 0) 0) (c .before .before .before .loop .i) (omega arith)
+    (eq-eqb _ _ (c .if1 .taken)))
 
 loop-again : tie.Need-loop-again Inv-loop μ-loop
-loop-again c = (omega arith, some-more (c .before .before .before .loop .i) (λ k. eqb (getD (c .before .before .before .before .args .marks .now) k 0) 0) (c .before .before .before .loop .inv .1) (ne-eqb _ _ (c .if1 .left)))
+loop-again c =
+    let at-loop : tie.At-loop Inv-loop μ-loop = search in
+    let at-start : tie.Start Inv-loop μ-loop = search in
+    (omega arith, some-more (at-loop .loop .i) (λ k. eqb (getD (at-start .args .marks .now) k 0) 0) (at-loop .loop .inv .1) (ne-eqb _ _ (c .if1 .left)))
 
 returns-2 : tie.Need-returns-2 Inv-loop μ-loop
 returns-2 c =
@@ -49,10 +43,10 @@ has-calibrated-spec =
     Inv-loop
     μ-loop
     loop-holds
-    mul-if1
-    shared-slice-read-if1
+    (λ c. omega arith)
+    (λ c. omega arith)
     returns
-    add-i
-    loop-less
+    (λ c. omega arith)
+    (λ c. omega arith)
     loop-again
     returns-2)

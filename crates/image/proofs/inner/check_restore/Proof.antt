@@ -11,50 +11,71 @@ use Rattle.image.proofs.inner.check_restore.Statement.{statement}
 use Rattle.image.proofs.inner.check_restore.Tie as tie
 
 returns : tie.Need-returns
-returns c = let a = c .before .before .before .before .args in way-short (a .b .now) (tables (a .stay .now) (a .moved .now) (a .totals .now)) (lt-ltb _ _ (c .if1 .taken))
-
-config-in-requires : tie.Need-config-in-requires
-config-in-requires c κs = search needs
-
-is-valid-requires : tie.Need-is-valid-requires
-is-valid-requires c κs = search needs
+returns c =
+    let at-start : tie.Start = search in
+    let a = at-start .args in way-short (a .b .now) (tables (a .stay .now) (a .moved .now) (a .totals .now)) (lt-ltb _ _ (c .if1 .taken))
 
 returns-2 : tie.Need-returns-2
 returns-2 c =
-    let a = c .before .before .before .before .before .before .before .args in
-    way-invalid (a .b .now) (tables (a .stay .now) (a .moved .now) (a .totals .now)) (le-ltb _ _ (c .before .before .before .if1 .left)) (ap valid (sym (c .before .before .config-in .ensures)) ∙ sym (c .before .is-valid .ensures) ∙ not-true _ (c .if2 .taken))
-
-record-in-requires : tie.Need-record-in-requires
-record-in-requires c κs = search needs
+    let at-start : tie.Start = search in
+    let a = at-start .args in
+    way-invalid (a .b .now) (tables (a .stay .now) (a .moved .now) (a .totals .now)) (le-ltb _ _ (c .before .before .before .if1 .left))
+    (ap valid (sym (c .before .before .config-in .ensures)) ∙ sym (c .before .is-valid .ensures) ∙ not-true _ (c .if2 .taken))
 
 is-laid-out-requires : tie.Need-is-laid-out-requires
-is-laid-out-requires c κs = (valid-known _ (sym (c .before .before .is-valid .ensures) ∙ not-false _ (c .before .if2 .left)), c .before .before .before .before .if1 .left, c .before .before .before .config-in .ensures, c .record-in .ensures)
+is-laid-out-requires c κs =
+    let at-else1 : tie.Else1 = search in (
+      valid-known _ (sym (c .before .before .is-valid .ensures) ∙ not-false _ (c .before .if2 .left)),
+      at-else1 .if1 .left,
+      c .before .before .before .config-in .ensures,
+      c .record-in .ensures,
+    )
 
 returns-3 : tie.Need-returns-3
 returns-3 c =
-    let a = c .before .before .before .before .before .before .before .before .before .before .args in
-    way-layout (a .b .now) (tables (a .stay .now) (a .moved .now) (a .totals .now)) (le-ltb _ _ (c .before .before .before .before .before .before .if1 .left)) (ap valid (sym (c .before .before .before .before .before .config-in .ensures)) ∙ sym (c .before .before .before .before .is-valid .ensures) ∙ not-false _ (c .before .before .before .if2 .left)) (sym (c .before .is-laid-out .ensures) ∙ not-true _ (c .if3 .taken))
+    let at-is-valid : tie.After-is-valid = search in
+    let at-config-in : tie.After-config-in = search in
+    let at-else1 : tie.Else1 = search in
+    let at-start : tie.Start = search in
+    let a = at-start .args in
+    way-layout (a .b .now) (tables (a .stay .now) (a .moved .now) (a .totals .now)) (le-ltb _ _ (at-else1 .if1 .left))
+    (ap valid (sym (at-config-in .config-in .ensures)) ∙ sym (at-is-valid .is-valid .ensures) ∙ not-false _ (c .before .before .before .if2 .left))
+    (sym (c .before .is-laid-out .ensures) ∙ not-true _ (c .if3 .taken))
 
 check-held-requires : tie.Need-check-held-requires
 check-held-requires c κs =
-    let a = c .before .before .before .before .before .before .before .before .before .before .args in
-    (valid-known _ (sym (c .before .before .before .before .is-valid .ensures) ∙ not-false _ (c .before .before .before .if2 .left)), c .before .before .before .before .before .config-in .ensures, c .before .before .record-in .ensures, laid-out-whole (a .b .now) (sym (c .before .is-laid-out .ensures) ∙ not-false _ (c .if3 .left)) ∙ ap imageLength (sym (c .before .before .before .before .before .config-in .ensures)))
+    let at-is-valid : tie.After-is-valid = search in
+    let at-config-in : tie.After-config-in = search in
+    let at-start : tie.Start = search in
+    let a = at-start .args in (
+      valid-known _ (sym (at-is-valid .is-valid .ensures) ∙ not-false _ (c .before .before .before .if2 .left)),
+      at-config-in .config-in .ensures,
+      c .before .before .record-in .ensures,
+      laid-out-whole (a .b .now) (sym (c .before .is-laid-out .ensures) ∙ not-false _ (c .if3 .left)) ∙ ap imageLength (sym (at-config-in .config-in .ensures)),
+    )
 
 returns-4 : tie.Need-returns-4
 returns-4 c =
-    let a = c .before .before .before .before .before .before .before .before .before .before .before .args in
+    let at-else2 : tie.Else2 = search in
+    let at-is-valid : tie.After-is-valid = search in
+    let at-config-in : tie.After-config-in = search in
+    let at-else1 : tie.Else1 = search in
+    let at-start : tie.Start = search in
+    let a = at-start .args in
     c .check-held .ensures
-    ∙ way-held (a .b .now) (tables (a .stay .now) (a .moved .now) (a .totals .now)) (le-ltb _ _ (c .before .before .before .before .before .before .before .if1 .left)) (ap valid (sym (c .before .before .before .before .before .before .config-in .ensures)) ∙ sym (c .before .before .before .before .before .is-valid .ensures) ∙ not-false _ (c .before .before .before .before .if2 .left)) (sym (c .before .before .is-laid-out .ensures) ∙ not-false _ (c .before .if3 .left))
+    ∙ way-held (a .b .now) (tables (a .stay .now) (a .moved .now) (a .totals .now)) (le-ltb _ _ (at-else1 .if1 .left))
+    (ap valid (sym (at-config-in .config-in .ensures)) ∙ sym (at-is-valid .is-valid .ensures) ∙ not-false _ (at-else2 .if2 .left))
+    (sym (c .before .before .is-laid-out .ensures) ∙ not-false _ (c .before .if3 .left))
 
 pub check-restore-spec : {M : Type 1} → statement M
 check-restore-spec =
     tie.close
     (tie.spec
     returns
-    config-in-requires
-    is-valid-requires
+    (λ c κs. search needs)
+    (λ c κs. search needs)
     returns-2
-    record-in-requires
+    (λ c κs. search needs)
     is-laid-out-requires
     returns-3
     check-held-requires

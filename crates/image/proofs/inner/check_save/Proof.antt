@@ -7,47 +7,74 @@ use borrow.Author.Needs.{needs}
 use Rattle.image.proofs.inner.check_save.Statement.{statement}
 use Rattle.image.proofs.inner.check_save.Tie as tie
 
-check-room-requires : tie.Need-check-room-requires
-check-room-requires c κs = search needs
-
-enum-told : tie.Need-enum-told
-enum-told c = search needs
-
-enum-told-2 : tie.Need-enum-told-2
-enum-told-2 c = search needs
-
 returns : tie.Need-returns
 returns c = rw (← c .before .before .check-room .ensures, c .enum-told2 .given .1)
 
 image-length-requires : tie.Need-image-length-requires
-image-length-requires c κs = let a = c .before .before .before .before .before .args in room-known (a .c) _ _ _ (sym (c .before .before .check-room .ensures) ∙ c .enum-told .given .1) .0
+image-length-requires c κs =
+    let at-start : tie.Start = search in
+    let a = at-start .args in room-known (a .c) _ _ _ (sym (c .before .before .check-room .ensures) ∙ c .enum-told .given .1) .0
 
 returns-2 : tie.Need-returns-2
-returns-2 c = rw (← c .before .before .before .before .check-room .ensures, c .before .before .enum-told .given .1, ne-eqb _ _ (λ h. c .if1 .taken (h ∙ sym (c .before .image-length .ensures))))
+returns-2 c =
+    let at-check-room : tie.After-check-room = search in
+    rw (
+      ← at-check-room .check-room .ensures,
+      c .before .before .enum-told .given .1,
+      ne-eqb _ _ (λ h. c .if1 .taken (h ∙ sym (c .before .image-length .ensures))),
+    )
 
 is-broken-requires : tie.Need-is-broken-requires
-is-broken-requires c κs = let a = c .before .before .before .before .before .before .before .args in room-known (a .c) _ _ _ (sym (c .before .before .before .before .check-room .ensures) ∙ c .before .before .enum-told .given .1) .0 .tick-least
+is-broken-requires c κs =
+    let at-check-room : tie.After-check-room = search in
+    let at-start : tie.Start = search in
+    let a = at-start .args in room-known (a .c) _ _ _ (sym (at-check-room .check-room .ensures) ∙ c .before .before .enum-told .given .1) .0 .tick-least
 
 returns-3 : tie.Need-returns-3
-returns-3 c = rw (← c .before .before .before .before .before .before .check-room .ensures, c .before .before .before .before .enum-told .given .1, eq-eqb _ _ (c .before .before .if1 .left ∙ c .before .before .before .image-length .ensures), ← c .before .is-broken .ensures, c .if2 .taken)
+returns-3 c =
+    let at-enum-told : tie.After-enum-told = search in
+    let at-check-room : tie.After-check-room = search in
+    rw (
+      ← at-check-room .check-room .ensures,
+      at-enum-told .enum-told .given .1,
+      eq-eqb _ _ (c .before .before .if1 .left ∙ c .before .before .before .image-length .ensures),
+      ← c .before .is-broken .ensures,
+      c .if2 .taken,
+    )
 
 check-mirrored-counts-requires : tie.Need-check-mirrored-counts-requires
 check-mirrored-counts-requires c κs =
-    let a = c .before .before .before .before .before .before .before .before .before .before .args in
-    let v = room-known (a .c) (length (a .stay .now)) (length (a .moved .now)) (length (a .totals .now)) (sym (c .before .before .before .before .before .before .before .check-room .ensures) ∙ c .before .before .before .before .before .enum-told .given .1) in
+    let at-enum-told : tie.After-enum-told = search in
+    let at-check-room : tie.After-check-room = search in
+    let at-start : tie.Start = search in
+    let a = at-start .args in
+    let v = room-known (a .c) (length (a .stay .now)) (length (a .moved .now)) (length (a .totals .now))
+    (sym (at-check-room .check-room .ensures) ∙ at-enum-told .enum-told .given .1) in
     let z = lengths-known (states (a .c)) (length (a .stay .now)) (length (a .moved .now)) (length (a .totals .now)) (v .1) in
     (v .0, z .stay-cells, z .moved-cells, z .totals-cells)
 
 returns-4 : tie.Need-returns-4
-returns-4 c = rw (← c .before .before .before .before .before .before .before .before .check-room .ensures, c .before .before .before .before .before .before .enum-told .given .1, eq-eqb _ _ (c .before .before .before .before .if1 .left ∙ c .before .before .before .before .before .image-length .ensures), ← c .before .before .before .is-broken .ensures, c .before .before .if2 .left, c .check-mirrored-counts .ensures)
+returns-4 c =
+    let at-else1 : tie.Else1 = search in
+    let at-image-length : tie.After-image-length = search in
+    let at-enum-told : tie.After-enum-told = search in
+    let at-check-room : tie.After-check-room = search in
+    rw (
+      ← at-check-room .check-room .ensures,
+      at-enum-told .enum-told .given .1,
+      eq-eqb _ _ (at-else1 .if1 .left ∙ at-image-length .image-length .ensures),
+      ← c .before .before .before .is-broken .ensures,
+      c .before .before .if2 .left,
+      c .check-mirrored-counts .ensures,
+    )
 
 pub check-save-spec : {M : Type 1} → statement M
 check-save-spec =
     tie.close
     (tie.spec
-    check-room-requires
-    enum-told
-    enum-told-2
+    (λ c κs. search needs)
+    (λ c. search needs)
+    (λ c. search needs)
     returns
     image-length-requires
     returns-2

@@ -6,38 +6,31 @@ use borrow.Author.Needs.{needs}
 use Rattle.image.proofs.inner.save.Statement.{statement}
 use Rattle.image.proofs.inner.save.Tie as tie
 
-check-save-requires : tie.Need-check-save-requires
-check-save-requires c κs = search needs
-
-enum-told : tie.Need-enum-told
-enum-told c = search needs
-
-enum-told-2 : tie.Need-enum-told-2
-enum-told-2 c = search needs
-
 returns : tie.Need-returns
 returns c = rw (c .enum-told2 .given .1, ← c .before .before .check-save .ensures, c .enum-told2 .given .1)
 
 write-image-requires : tie.Need-write-image-requires
 write-image-requires c κs =
-    let a = c .before .before .before .before .before .before .before .args in
-    let k = save-known (a .config) (memory (a .rec) (a .stay .now) (a .moved .now) (a .move-half-ticks .now)) (length (a .out .now)) (sym (c .before .before .before .check-save .ensures) ∙ c .before .enum-told .given .1) in
+    let at-start : tie.Start = search in
+    let a = at-start .args in
+    let k = save-known (a .config) (memory (a .rec) (a .stay .now) (a .moved .now) (a .move-half-ticks .now)) (length (a .out .now))
+    (sym (c .before .before .before .check-save .ensures) ∙ c .before .enum-told .given .1) in
     (k .conf, k .sizes, k .long-is)
 
-same-length : tie.Need-same-length
-same-length c = search needs
-
 returns-2 : tie.Need-returns-2
-returns-2 c = rw (c .before .before .before .before .enum-told .given .1, ← c .before .before .before .before .before .before .check-save .ensures, c .before .before .before .before .enum-told .given .1, c .before .before .write-image .ensures)
+returns-2 c =
+    let at-enum-told : tie.After-enum-told = search in
+    let at-check-save : tie.After-check-save = search in
+    rw (at-enum-told .enum-told .given .1, ← at-check-save .check-save .ensures, at-enum-told .enum-told .given .1, c .before .before .write-image .ensures)
 
 pub save-spec : {M : Type 1} → statement M
 save-spec =
     tie.close
     (tie.spec
-    check-save-requires
-    enum-told
-    enum-told-2
+    (λ c κs. search needs)
+    (λ c. search needs)
+    (λ c. search needs)
     returns
     write-image-requires
-    same-length
+    (λ c. search needs)
     returns-2)

@@ -20,30 +20,25 @@ loop-holds c = (omega arith, omega arith, refl, cleared-rows-none)
 
 clear-row-requires : tie.Need-clear-row-requires Inv-loop μ-loop
 clear-row-requires c κs =
-    let a = c .before .before .before .before .args in (
+    let at-start : tie.Start Inv-loop μ-loop = search in
+    let a = at-start .args in (
       omega arith,
       omega arith,
       omega (arith, row-in (c .before .before .loop .r) (a .hi) (a .w) (omega arith)),
-      ⊎-elim (λ q. omega arith) (λ q. omega arith) (c .before .before .before .before .pre .4),
+      ⊎-elim (λ q. omega arith) (λ q. omega arith) (at-start .pre .4),
     )
-
-add-r : tie.Need-add-r Inv-loop μ-loop
-add-r c = omega arith
-
-loop-less : tie.Need-loop-less Inv-loop μ-loop
-loop-less c = omega arith
 
 loop-again : tie.Need-loop-again Inv-loop μ-loop
 loop-again c =
-    let a = c .before .before .before .before .before .before .before .args in (
+    let at-loop : tie.At-loop Inv-loop μ-loop = search in
+    let at-start : tie.Start Inv-loop μ-loop = search in
+    let a = at-start .args in (
       omega arith,
       omega arith,
       omega arith,
-      cleared-rows-more (a .w) (a .c) (a .lo) (c .before .before .before .before .before .loop .r) _ _ _ (omega arith) (omega arith) (⊎-elim (λ q. inl q) (λ q. inr (omega arith)) (c .before .before .before .before .before .before .before .pre .4)) (c .before .before .before .before .before .loop .inv .3) (c .before .before .clear-row .ensures),
+      cleared-rows-more (a .w) (a .c) (a .lo) (at-loop .loop .r) _ _ _ (omega arith) (omega arith)
+          (⊎-elim (λ q. inl q) (λ q. inr (omega arith)) (at-start .pre .4)) (at-loop .loop .inv .3) (c .before .before .clear-row .ensures),
     )
-
-same-length : tie.Need-same-length Inv-loop μ-loop
-same-length c = omega arith
 
 returns : tie.Need-returns Inv-loop μ-loop
 returns c =
@@ -58,8 +53,8 @@ clear-rows-spec =
     μ-loop
     loop-holds
     clear-row-requires
-    add-r
-    loop-less
+    (λ c. omega arith)
+    (λ c. omega arith)
     loop-again
-    same-length
+    (λ c. omega arith)
     returns)

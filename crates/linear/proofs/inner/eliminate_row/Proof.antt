@@ -11,7 +11,8 @@ use Rattle.linear.proofs.inner.eliminate_row.Statement.{statement}
 use Rattle.linear.proofs.inner.eliminate_row.Tie as tie
 
 abbrev Inv-loop : tie.InvT-loop
-Inv-loop rows₀ w row top factor k₀ rows k = (k ≤ w) × (length rows ≡ length rows₀) × Filled row k (λ k. sub binary64 (from row rows₀ k) (mul binary64 factor (from top rows₀ k))) rows₀ rows
+Inv-loop rows₀ w row top factor k₀ rows k =
+    (k ≤ w) × (length rows ≡ length rows₀) × Filled row k (λ k. sub binary64 (from row rows₀ k) (mul binary64 factor (from top rows₀ k))) rows₀ rows
 
 abbrev μ-loop : tie.MeasureT-loop
 μ-loop rows₀ w row top factor k₀ rows k = w - k
@@ -19,52 +20,21 @@ abbrev μ-loop : tie.MeasureT-loop
 loop-holds : tie.Need-loop-holds Inv-loop μ-loop
 loop-holds c = (omega arith, refl, filled-none)
 
-add-rows : tie.Need-add-rows Inv-loop μ-loop
-add-rows c = omega arith
-
-mul-rows : tie.Need-mul-rows Inv-loop μ-loop
-mul-rows c = omega arith
-
-slice-read-rows : tie.Need-slice-read-rows Inv-loop μ-loop
-slice-read-rows c = omega arith
-
-add-rows-2 : tie.Need-add-rows-2 Inv-loop μ-loop
-add-rows-2 c = omega arith
-
-mul-rows-2 : tie.Need-mul-rows-2 Inv-loop μ-loop
-mul-rows-2 c = omega arith
-
-slice-read-rows-2 : tie.Need-slice-read-rows-2 Inv-loop μ-loop
-slice-read-rows-2 c = omega arith
-
-add-rows-3 : tie.Need-add-rows-3 Inv-loop μ-loop
-add-rows-3 c = omega arith
-
-mul-rows-3 : tie.Need-mul-rows-3 Inv-loop μ-loop
-mul-rows-3 c = omega arith
-
-slice-write-rows : tie.Need-slice-write-rows Inv-loop μ-loop
-slice-write-rows c = omega arith
-
-add-k : tie.Need-add-k Inv-loop μ-loop
-add-k c = omega arith
-
-loop-less : tie.Need-loop-less Inv-loop μ-loop
-loop-less c = omega arith
-
 loop-again : tie.Need-loop-again Inv-loop μ-loop
 loop-again c =
-    let a = c .before .before .before .before .args in
-    let k = c .before .before .before .loop .k in
-    let f = c .before .before .before .loop .inv .2 in (
+    let at-loop : tie.At-loop Inv-loop μ-loop = search in
+    let at-start : tie.Start Inv-loop μ-loop = search in
+    let a = at-start .args in
+    let k = at-loop .loop .k in
+    let f = at-loop .loop .inv .2 in (
       omega arith,
       simp length-set (omega arith),
       filled-more f _ (omega arith)
-          (rw (filled-ahead f (a .row + k) (omega arith), f .elsewhere (a .top + k) (⊎-elim (λ q. inl (omega arith)) (λ q. inr (omega arith)) (c .before .before .before .before .pre .2)))),
+          (rw (
+            filled-ahead f (a .row + k) (omega arith),
+            f .elsewhere (a .top + k) (⊎-elim (λ q. inl (omega arith)) (λ q. inr (omega arith)) (at-start .pre .2)),
+          )),
     )
-
-same-length : tie.Need-same-length Inv-loop μ-loop
-same-length c = omega arith
 
 returns : tie.Need-returns Inv-loop μ-loop
 returns c =
@@ -78,17 +48,17 @@ eliminate-row-spec =
     Inv-loop
     μ-loop
     loop-holds
-    add-rows
-    mul-rows
-    slice-read-rows
-    add-rows-2
-    mul-rows-2
-    slice-read-rows-2
-    add-rows-3
-    mul-rows-3
-    slice-write-rows
-    add-k
-    loop-less
+    (λ c. omega arith)
+    (λ c. omega arith)
+    (λ c. omega arith)
+    (λ c. omega arith)
+    (λ c. omega arith)
+    (λ c. omega arith)
+    (λ c. omega arith)
+    (λ c. omega arith)
+    (λ c. omega arith)
+    (λ c. omega arith)
+    (λ c. omega arith)
     loop-again
-    same-length
+    (λ c. omega arith)
     returns)

@@ -19,40 +19,29 @@ abbrev μ-loop : tie.MeasureT-loop
 loop-holds : tie.Need-loop-holds Inv-loop μ-loop
 loop-holds c = (omega arith, refl, columns-none)
 
-reduce-column-requires : tie.Need-reduce-column-requires Inv-loop μ-loop
-reduce-column-requires c κs = omega arith
-
-enum-told : tie.Need-enum-told Inv-loop μ-loop
-enum-told c = omega arith
-
-enum-told-2 : tie.Need-enum-told-2 Inv-loop μ-loop
-enum-told-2 c = omega arith
-
-same-length : tie.Need-same-length Inv-loop μ-loop
-same-length c = omega arith
-
 returns : tie.Need-returns Inv-loop μ-loop
 returns c =
-    let a = c .before .before .before .before .before .before .before .before .before .args in
-    columns-singular (a .n) (a .w) (c .before .before .before .before .before .before .before .loop .c + 1) _ _ (omega arith)
-    (rw (c .enum-told2 .given .1) at (columns-more (a .n) (a .w) (c .before .before .before .before .before .before .before .loop .c) (omega arith) (omega arith) _ _ _ (c .before .before .before .before .reduce-column .result) (c .before .before .before .before .before .before .before .loop .inv .2) (c .before .before .before .before .reduce-column .ensures)))
-
-add-c : tie.Need-add-c Inv-loop μ-loop
-add-c c = omega arith
-
-loop-less : tie.Need-loop-less Inv-loop μ-loop
-loop-less c = omega arith
+    let at-reduce-column : tie.After-reduce-column Inv-loop μ-loop = search in
+    let at-loop : tie.At-loop Inv-loop μ-loop = search in
+    let at-start : tie.Start Inv-loop μ-loop = search in
+    let a = at-start .args in
+    columns-singular (a .n) (a .w) (at-loop .loop .c + 1) _ _ (omega arith)
+    (rw (c .enum-told2 .given .1) at
+    (columns-more (a .n) (a .w) (at-loop .loop .c) (omega arith) (omega arith) _ _ _ (at-reduce-column .reduce-column .result) (at-loop .loop .inv .2)
+    (at-reduce-column .reduce-column .ensures)))
 
 loop-again : tie.Need-loop-again Inv-loop μ-loop
 loop-again c =
-    let a = c .before .before .before .before .before .before .before .before .before .args in (
+    let at-reduce-column : tie.After-reduce-column Inv-loop μ-loop = search in
+    let at-loop : tie.At-loop Inv-loop μ-loop = search in
+    let at-start : tie.Start Inv-loop μ-loop = search in
+    let a = at-start .args in (
       omega arith,
       omega arith,
-      rw (c .enum-told .given .1) at (columns-more (a .n) (a .w) (c .before .before .before .before .before .before .before .loop .c) (omega arith) (omega arith) _ _ _ (c .before .before .before .before .reduce-column .result) (c .before .before .before .before .before .before .before .loop .inv .2) (c .before .before .before .before .reduce-column .ensures)),
+      rw (c .enum-told .given .1) at
+          (columns-more (a .n) (a .w) (at-loop .loop .c) (omega arith) (omega arith) _ _ _ (at-reduce-column .reduce-column .result) (at-loop .loop .inv .2)
+          (at-reduce-column .reduce-column .ensures)),
     )
-
-same-length-2 : tie.Need-same-length-2 Inv-loop μ-loop
-same-length-2 c = omega arith
 
 returns-2 : tie.Need-returns-2 Inv-loop μ-loop
 returns-2 c =
@@ -66,13 +55,13 @@ gauss-jordan-spec =
     Inv-loop
     μ-loop
     loop-holds
-    reduce-column-requires
-    enum-told
-    enum-told-2
-    same-length
+    (λ c κs. omega arith)
+    (λ c. omega arith)
+    (λ c. omega arith)
+    (λ c. omega arith)
     returns
-    add-c
-    loop-less
+    (λ c. omega arith)
+    (λ c. omega arith)
     loop-again
-    same-length-2
+    (λ c. omega arith)
     returns-2)

@@ -7,81 +7,104 @@ use borrow.Author.Needs.{needs}
 use Rattle.linear.proofs.inner.reduce_column.Statement.{statement}
 use Rattle.linear.proofs.inner.reduce_column.Tie as tie
 
-find-pivot-requires : tie.Need-find-pivot-requires
-find-pivot-requires c κs = search needs
-
 mul-abs : tie.Need-mul-abs
-mul-abs c = omega (arith, row-in (c .find-pivot .result) (c .before .before .before .args .n) (c .before .before .before .args .w) (omega arith))
+mul-abs c =
+    let at-start : tie.Start = search in
+    omega (arith, row-in (c .find-pivot .result) (at-start .args .n) (at-start .args .w) (omega arith))
 
 add-abs : tie.Need-add-abs
-add-abs c = omega (arith, row-in (c .find-pivot .result) (c .before .before .before .args .n) (c .before .before .before .args .w) (omega arith))
+add-abs c =
+    let at-start : tie.Start = search in
+    omega (arith, row-in (c .find-pivot .result) (at-start .args .n) (at-start .args .w) (omega arith))
 
 mul-abs-2 : tie.Need-mul-abs-2
-mul-abs-2 c = omega (arith, row-in (c .find-pivot .result) (c .before .before .before .args .n) (c .before .before .before .args .w) (omega arith))
+mul-abs-2 c =
+    let at-start : tie.Start = search in
+    omega (arith, row-in (c .find-pivot .result) (at-start .args .n) (at-start .args .w) (omega arith))
 
 slice-read-abs : tie.Need-slice-read-abs
-slice-read-abs c = omega (arith, row-in (c .before .find-pivot .result) (c .before .before .before .before .args .n) (c .before .before .before .before .args .w) (omega arith))
-
-abs-requires : tie.Need-abs-requires
-abs-requires c κs = search needs
-
-same-length : tie.Need-same-length
-same-length c = search needs
+slice-read-abs c =
+    let at-start : tie.Start = search in
+    omega (arith, row-in (c .before .find-pivot .result) (at-start .args .n) (at-start .args .w) (omega arith))
 
 returns : tie.Need-returns
-returns c = column-singular (c .before .before .before .before .before .before .args .n) (c .before .before .before .before .before .before .args .w) (c .before .before .before .before .before .before .args .c) (c .before .before .before .find-pivot .result) _ _ (c .before .before .before .find-pivot .ensures .1) (c .before .abs .ensures) (c .if1 .taken)
+returns c =
+    let at-find-pivot : tie.After-find-pivot = search in
+    let at-start : tie.Start = search in
+    column-singular (at-start .args .n) (at-start .args .w) (at-start .args .c) (at-find-pivot .find-pivot .result) _ _ (at-find-pivot .find-pivot .ensures .1)
+    (c .before .abs .ensures) (c .if1 .taken)
 
 swap-rows-requires : tie.Need-swap-rows-requires
-swap-rows-requires c κs = omega (arith, row-in (c .before .before .before .before .before .before .before .args .c) (c .before .before .before .before .before .before .before .args .n) (c .before .before .before .before .before .before .before .args .w) (omega arith), row-in (c .before .before .before .before .find-pivot .result) (c .before .before .before .before .before .before .before .args .n) (c .before .before .before .before .before .before .before .args .w) (omega arith))
+swap-rows-requires c κs =
+    let at-find-pivot : tie.After-find-pivot = search in
+    let at-start : tie.Start = search in
+    let a = at-start .args in
+    omega (arith, row-in (a .c) (a .n) (a .w) (omega arith), row-in (at-find-pivot .find-pivot .result) (a .n) (a .w) (omega arith))
 
 mul-start : tie.Need-mul-start
-mul-start c = omega (arith, row-in (c .before .before .before .before .before .before .before .before .before .before .args .c) (c .before .before .before .before .before .before .before .before .before .before .args .n) (c .before .before .before .before .before .before .before .before .before .before .args .w) (omega arith))
+mul-start c =
+    let at-start : tie.Start = search in
+    omega (arith, row-in (at-start .args .c) (at-start .args .n) (at-start .args .w) (omega arith))
 
 add-pivot : tie.Need-add-pivot
-add-pivot c = omega (arith, row-in (c .before .before .before .before .before .before .before .before .before .before .args .c) (c .before .before .before .before .before .before .before .before .before .before .args .n) (c .before .before .before .before .before .before .before .before .before .before .args .w) (omega arith))
+add-pivot c =
+    let at-start : tie.Start = search in
+    omega (arith, row-in (at-start .args .c) (at-start .args .n) (at-start .args .w) (omega arith))
 
 mul-pivot : tie.Need-mul-pivot
-mul-pivot c = omega (arith, row-in (c .before .before .before .before .before .before .before .before .before .before .args .c) (c .before .before .before .before .before .before .before .before .before .before .args .n) (c .before .before .before .before .before .before .before .before .before .before .args .w) (omega arith))
+mul-pivot c =
+    let at-start : tie.Start = search in
+    omega (arith, row-in (at-start .args .c) (at-start .args .n) (at-start .args .w) (omega arith))
 
 slice-read-pivot : tie.Need-slice-read-pivot
-slice-read-pivot c = omega (arith, row-in (c .before .before .before .before .before .before .before .before .before .before .before .args .c) (c .before .before .before .before .before .before .before .before .before .before .before .args .n) (c .before .before .before .before .before .before .before .before .before .before .before .args .w) (omega arith))
+slice-read-pivot c =
+    let at-start : tie.Start = search in
+    omega (arith, row-in (at-start .args .c) (at-start .args .n) (at-start .args .w) (omega arith))
 
 divide-row-requires : tie.Need-divide-row-requires
-divide-row-requires c κs = omega (arith, row-in (c .before .before .before .before .before .before .before .before .before .before .before .before .args .c) (c .before .before .before .before .before .before .before .before .before .before .before .before .args .n) (c .before .before .before .before .before .before .before .before .before .before .before .before .args .w) (omega arith))
+divide-row-requires c κs =
+    let at-start : tie.Start = search in
+    omega (arith, row-in (at-start .args .c) (at-start .args .n) (at-start .args .w) (omega arith))
 
 clear-rows-requires : tie.Need-clear-rows-requires
 clear-rows-requires c κs =
-    let r = row-in (c .before .before .before .before .before .before .before .before .before .before .before .before .before .before .before .before .args .c) (c .before .before .before .before .before .before .before .before .before .before .before .before .before .before .before .before .args .n) (c .before .before .before .before .before .before .before .before .before .before .before .before .before .before .before .before .args .w) (omega arith) in
+    let at-start : tie.Start = search in
+    let r = row-in (at-start .args .c) (at-start .args .n) (at-start .args .w) (omega arith) in
     (omega arith, omega arith, omega arith, omega arith, inr (omega arith))
-
-add-clear-rows : tie.Need-add-clear-rows
-add-clear-rows c = search needs
 
 clear-rows-requires-2 : tie.Need-clear-rows-requires-2
 clear-rows-requires-2 c κs =
-    let r = row-in (c .before .before .before .before .before .before .before .before .before .before .before .before .before .before .before .before .before .before .before .before .args .c) (c .before .before .before .before .before .before .before .before .before .before .before .before .before .before .before .before .before .before .before .before .args .n) (c .before .before .before .before .before .before .before .before .before .before .before .before .before .before .before .before .before .before .before .before .args .w) (omega arith) in
+    let at-abs : tie.After-abs = search in
+    let at-start : tie.Start = search in
+    let r = row-in (at-start .args .c) (at-start .args .n) (at-start .args .w) (omega arith) in
     (omega arith, omega arith, omega arith, omega arith, inl (omega arith))
-
-same-length-2 : tie.Need-same-length-2
-same-length-2 c = search needs
 
 returns-2 : tie.Need-returns-2
 returns-2 c =
-    let a = c .before .before .before .before .before .before .before .before .before .before .before .before .before .before .before .before .before .before .before .before .before .before .before .args in
-    column-solved (a .n) (a .w) (a .c) (c .before .before .before .before .before .before .before .before .before .before .before .before .before .before .before .before .before .before .before .before .find-pivot .result) _ _ (c .before .before .before .before .before .before .before .before .before .before .before .before .before .before .before .before .before .before .before .before .find-pivot .ensures .1) (c .before .before .before .before .before .before .before .before .before .before .before .before .before .before .before .before .before .before .abs .ensures) _ (c .before .before .before .before .before .before .before .before .before .before .before .before .before .before .before .before .before .if1 .left)
-    (column-becomes (a .n) (a .w) (a .c) (c .before .before .before .before .before .before .before .before .before .before .before .before .before .before .before .before .before .before .before .before .find-pivot .result) (omega arith) (omega arith) (omega arith) _ _ _ _ _ (c .before .before .before .before .before .before .before .before .before .before .before .before .before .before .before .swap-rows .ensures) (c .before .before .before .before .before .before .before .before .before .before .divide-row .ensures) (c .before .before .before .before .before .before .clear-rows .ensures) (c .before .before .clear-rows2 .ensures))
+    let at-clear-rows : tie.After-clear-rows = search in
+    let at-divide-row : tie.After-divide-row = search in
+    let at-swap-rows : tie.After-swap-rows = search in
+    let at-else1 : tie.Else1 = search in
+    let at-abs : tie.After-abs = search in
+    let at-find-pivot : tie.After-find-pivot = search in
+    let at-start : tie.Start = search in
+    let a = at-start .args in
+    column-solved (a .n) (a .w) (a .c) (at-find-pivot .find-pivot .result) _ _ (at-find-pivot .find-pivot .ensures .1) (at-abs .abs .ensures) _
+    (at-else1 .if1 .left)
+    (column-becomes (a .n) (a .w) (a .c) (at-find-pivot .find-pivot .result) (omega arith) (omega arith) (omega arith) _ _ _ _ _
+    (at-swap-rows .swap-rows .ensures) (at-divide-row .divide-row .ensures) (at-clear-rows .clear-rows .ensures) (c .before .before .clear-rows2 .ensures))
 
 pub reduce-column-spec : {M : Type 1} → statement M
 reduce-column-spec =
     tie.close
     (tie.spec
-    find-pivot-requires
+    (λ c κs. search needs)
     mul-abs
     add-abs
     mul-abs-2
     slice-read-abs
-    abs-requires
-    same-length
+    (λ c κs. search needs)
+    (λ c. search needs)
     returns
     swap-rows-requires
     mul-start
@@ -90,7 +113,7 @@ reduce-column-spec =
     slice-read-pivot
     divide-row-requires
     clear-rows-requires
-    add-clear-rows
+    (λ c. search needs)
     clear-rows-requires-2
-    same-length-2
+    (λ c. search needs)
     returns-2)

@@ -16,66 +16,18 @@ abbrev μ-loop : tie.MeasureT-loop
 returns : tie.Need-returns Inv-loop μ-loop
 returns c = rw (c .if1 .taken) swapped-self
 
-mul-a : tie.Need-mul-a Inv-loop μ-loop
-mul-a c = omega arith
-
-mul-b : tie.Need-mul-b Inv-loop μ-loop
-mul-b c = omega arith
-
 loop-holds : tie.Need-loop-holds Inv-loop μ-loop
 loop-holds c = (omega arith, refl, swapped-none)
 
-add-x : tie.Need-add-x Inv-loop μ-loop
-add-x c = omega arith
-
-mul-x : tie.Need-mul-x Inv-loop μ-loop
-mul-x c = omega arith
-
-slice-read-x : tie.Need-slice-read-x Inv-loop μ-loop
-slice-read-x c = omega arith
-
-add-rows : tie.Need-add-rows Inv-loop μ-loop
-add-rows c = omega arith
-
-mul-rows : tie.Need-mul-rows Inv-loop μ-loop
-mul-rows c = omega arith
-
-slice-read-rows : tie.Need-slice-read-rows Inv-loop μ-loop
-slice-read-rows c = omega arith
-
-add-rows-2 : tie.Need-add-rows-2 Inv-loop μ-loop
-add-rows-2 c = omega arith
-
-mul-rows-2 : tie.Need-mul-rows-2 Inv-loop μ-loop
-mul-rows-2 c = omega arith
-
-slice-write-rows : tie.Need-slice-write-rows Inv-loop μ-loop
-slice-write-rows c = omega arith
-
-add-rows-3 : tie.Need-add-rows-3 Inv-loop μ-loop
-add-rows-3 c = omega arith
-
-mul-rows-3 : tie.Need-mul-rows-3 Inv-loop μ-loop
-mul-rows-3 c = omega arith
-
-slice-write-rows-2 : tie.Need-slice-write-rows-2 Inv-loop μ-loop
-slice-write-rows-2 c = simp length-set (omega arith)
-
-add-k : tie.Need-add-k Inv-loop μ-loop
-add-k c = omega arith
-
-loop-less : tie.Need-loop-less Inv-loop μ-loop
-loop-less c = omega arith
-
 loop-again : tie.Need-loop-again Inv-loop μ-loop
-loop-again c = (
-  omega arith,
-  simp length-set (omega arith),
-  swapped-more (rows-apart (c .before .before .before .before .before .args .w) (c .before .before .before .before .before .args .c) (c .before .before .before .before .before .args .p) (c .before .before .before .before .if1 .left)) (omega arith) (c .before .before .before .loop .inv .2) (omega arith) (omega arith),
-)
-
-same-length : tie.Need-same-length Inv-loop μ-loop
-same-length c = omega arith
+loop-again c =
+    let at-else1 : tie.Else1 Inv-loop μ-loop = search in
+    let at-start : tie.Start Inv-loop μ-loop = search in (
+      omega arith,
+      simp length-set (omega arith),
+      swapped-more (rows-apart (at-start .args .w) (at-start .args .c) (at-start .args .p) (at-else1 .if1 .left)) (omega arith)
+          (c .before .before .before .loop .inv .2) (omega arith) (omega arith),
+    )
 
 returns-2 : tie.Need-returns-2 Inv-loop μ-loop
 returns-2 c =
@@ -89,23 +41,23 @@ swap-rows-spec =
     Inv-loop
     μ-loop
     returns
-    mul-a
-    mul-b
+    (λ c. omega arith)
+    (λ c. omega arith)
     loop-holds
-    add-x
-    mul-x
-    slice-read-x
-    add-rows
-    mul-rows
-    slice-read-rows
-    add-rows-2
-    mul-rows-2
-    slice-write-rows
-    add-rows-3
-    mul-rows-3
-    slice-write-rows-2
-    add-k
-    loop-less
+    (λ c. omega arith)
+    (λ c. omega arith)
+    (λ c. omega arith)
+    (λ c. omega arith)
+    (λ c. omega arith)
+    (λ c. omega arith)
+    (λ c. omega arith)
+    (λ c. omega arith)
+    (λ c. omega arith)
+    (λ c. omega arith)
+    (λ c. omega arith)
+    (λ c. simp length-set (omega arith))
+    (λ c. omega arith)
+    (λ c. omega arith)
     loop-again
-    same-length
+    (λ c. omega arith)
     returns-2)

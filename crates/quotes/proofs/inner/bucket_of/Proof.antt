@@ -6,43 +6,43 @@ use borrow.Author.Needs.{needs}
 use Rattle.quotes.proofs.inner.bucket_of.Statement.{statement}
 use Rattle.quotes.proofs.inner.bucket_of.Tie as tie
 
-smaller-requires : tie.Need-smaller-requires
-smaller-requires c κs = search needs
-
-larger-requires : tie.Need-larger-requires
-larger-requires c κs = search needs
-
-lower-bucket-requires : tie.Need-lower-bucket-requires
-lower-bucket-requires c κs = search needs
-
-sub-result : tie.Need-sub-result
-sub-result c = search needs
-
 sub-result-2 : tie.Need-sub-result-2
-sub-result-2 c = omega (arith, c .before .lower-bucket .ensures, lower-le (c .before .before .before .smaller .result) (c .before .before .larger .result) (c .before .before .before .before .args .n))
+sub-result-2 c =
+    let at-start : tie.Start = search in
+    omega (
+      arith,
+      c .before .lower-bucket .ensures,
+      lower-le (c .before .before .before .smaller .result) (c .before .before .larger .result) (at-start .args .n),
+    )
 
 returns : tie.Need-returns
 returns c =
-    let a = c .before .before .before .before .args in
-    let l : c .before .before .before .smaller .result ≡ a .bid = omega (arith, c .before .before .before .smaller .ensures, c .if1 .taken) in
-    let h : c .before .before .larger .result ≡ a .ask = omega (arith, c .before .before .larger .ensures, c .if1 .taken) in
+    let at-larger : tie.After-larger = search in
+    let at-smaller : tie.After-smaller = search in
+    let at-start : tie.Start = search in
+    let a = at-start .args in
+    let l : at-smaller .smaller .result ≡ a .bid = omega (arith, at-smaller .smaller .ensures, c .if1 .taken) in
+    let h : at-larger .larger .result ≡ a .ask = omega (arith, at-larger .larger .ensures, c .if1 .taken) in
     rw (le-leb _ _ (c .if1 .taken), c .before .lower-bucket .ensures, l, h)
 
 returns-2 : tie.Need-returns-2
 returns-2 c =
-    let a = c .before .before .before .before .args in
-    let l : c .before .before .before .smaller .result ≡ a .ask = omega (arith, c .before .before .before .smaller .ensures, c .if1 .left) in
-    let h : c .before .before .larger .result ≡ a .bid = omega (arith, c .before .before .larger .ensures, c .if1 .left) in
+    let at-larger : tie.After-larger = search in
+    let at-smaller : tie.After-smaller = search in
+    let at-start : tie.Start = search in
+    let a = at-start .args in
+    let l : at-smaller .smaller .result ≡ a .ask = omega (arith, at-smaller .smaller .ensures, c .if1 .left) in
+    let h : at-larger .larger .result ≡ a .bid = omega (arith, at-larger .larger .ensures, c .if1 .left) in
     rw (lt-leb _ _ (c .if1 .left), c .before .lower-bucket .ensures, l, h)
 
 pub bucket-of-spec : {M : Type 1} → statement M
 bucket-of-spec =
     tie.close
     (tie.spec
-    smaller-requires
-    larger-requires
-    lower-bucket-requires
-    sub-result
+    (λ c κs. search needs)
+    (λ c κs. search needs)
+    (λ c κs. search needs)
+    (λ c. search needs)
     sub-result-2
     returns
     returns-2)

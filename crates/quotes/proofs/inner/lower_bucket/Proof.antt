@@ -10,18 +10,6 @@ use Rattle.quotes.proofs.inner.lower_bucket.Tie as tie
 mul-larger : tie.Need-mul-larger
 mul-larger c = fits-mul 1000000000 256 (omega arith) (omega arith) tt
 
-larger-requires : tie.Need-larger-requires
-larger-requires c κs = search needs
-
-sub-result : tie.Need-sub-result
-sub-result c = search needs
-
-add-result : tie.Need-add-result
-add-result c = search needs
-
-div-result : tie.Need-div-result
-div-result c = search needs
-
 returns : tie.Need-returns
 returns c =
     let a = c .before .args in
@@ -32,4 +20,4 @@ returns c =
 
 pub lower-bucket-spec : {M : Type 1} → statement M
 lower-bucket-spec =
-    tie.close (tie.spec mul-larger larger-requires sub-result add-result div-result returns)
+    tie.close (tie.spec mul-larger (λ c κs. search needs) (λ c. search needs) (λ c. search needs) (λ c. search needs) returns)

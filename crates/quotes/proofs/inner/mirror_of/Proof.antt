@@ -5,24 +5,15 @@ use borrow.Author.Needs.{needs}
 use Rattle.quotes.proofs.inner.mirror_of.Statement.{statement}
 use Rattle.quotes.proofs.inner.mirror_of.Tie as tie
 
-rem-bucket : tie.Need-rem-bucket
-rem-bucket c = search needs
-
 sub-result : tie.Need-sub-result
 sub-result c = mod-le _ _
 
-sub-result-2 : tie.Need-sub-result-2
-sub-result-2 c = search needs
-
 sub-result-3 : tie.Need-sub-result-3
 sub-result-3 c = omega (arith, mod-lt (c .args .state) {m = c .args .n} (search needs))
-
-add-result : tie.Need-add-result
-add-result c = search needs
 
 returns : tie.Need-returns
 returns c = mirror-by-remainder _ _
 
 pub mirror-of-spec : {M : Type 1} → statement M
 mirror-of-spec =
-    tie.close (tie.spec rem-bucket sub-result sub-result-2 sub-result-3 add-result returns)
+    tie.close (tie.spec (λ c. search needs) sub-result (λ c. search needs) sub-result-3 (λ c. search needs) returns)

@@ -4,17 +4,10 @@ use borrow.Author.Needs.{needs}
 use Rattle.quotes.proofs.inner.spread_of.Statement.{statement}
 use Rattle.quotes.proofs.inner.spread_of.Tie as tie
 
-in-ticks-requires : tie.Need-in-ticks-requires
-in-ticks-requires c κs = search needs
-
-in-ticks-requires-2 : tie.Need-in-ticks-requires-2
-in-ticks-requires-2 c κs = search needs
-
 sub-result : tie.Need-sub-result
-sub-result c = omega (arith, c .before .in-ticks .ensures, c .in-ticks2 .ensures, ticks-less _ _ (c .before .before .pre .0) (c .before .before .pre .1))
-
-returns : tie.Need-returns
-returns c = search needs
+sub-result c =
+    let at-start : tie.Start = search in
+    omega (arith, c .before .in-ticks .ensures, c .in-ticks2 .ensures, ticks-less _ _ (at-start .pre .0) (at-start .pre .1))
 
 pub spread-of-spec : {M : Type 1} → statement M
-spread-of-spec = tie.close (tie.spec in-ticks-requires in-ticks-requires-2 sub-result returns)
+spread-of-spec = tie.close (tie.spec (λ c κs. search needs) (λ c κs. search needs) sub-result (λ c. search needs))

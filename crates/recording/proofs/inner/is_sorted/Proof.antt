@@ -14,32 +14,23 @@ Inv-loop recording n last₀ i₀ last i =
 abbrev μ-loop : tie.MeasureT-loop
 μ-loop recording n last₀ i₀ last i = n - i
 
-loop-holds : tie.Need-loop-holds Inv-loop μ-loop
-loop-holds c = refl
-
-mul-time : tie.Need-mul-time Inv-loop μ-loop
-mul-time c = omega arith
-
-mul-time-2 : tie.Need-mul-time-2 Inv-loop μ-loop
-mul-time-2 c = omega arith
-
-shared-slice-read-time : tie.Need-shared-slice-read-time Inv-loop μ-loop
-shared-slice-read-time c = omega arith
-
 returns : tie.Need-returns Inv-loop μ-loop
-returns c = sym (c .before .before .before .loop .inv ∙ sorted-stop (c .before .before .before .before .args .recording .now) (c .before .before .before .loop .last) (c .before .before .before .loop .i) (c .before .before .loop-test .taken) (c .if1 .taken))
-
-add-i : tie.Need-add-i Inv-loop μ-loop
-add-i c = omega arith
-
-loop-less : tie.Need-loop-less Inv-loop μ-loop
-loop-less c = omega arith
+returns c =
+    let at-loop : tie.At-loop Inv-loop μ-loop = search in
+    let at-start : tie.Start Inv-loop μ-loop = search in
+    sym (at-loop .loop .inv
+    ∙ sorted-stop (at-start .args .recording .now) (at-loop .loop .last) (at-loop .loop .i) (c .before .before .loop-test .taken) (c .if1 .taken))
 
 loop-again : tie.Need-loop-again Inv-loop μ-loop
-loop-again c = c .before .before .before .loop .inv ∙ sorted-step (c .before .before .before .before .args .recording .now) (c .before .before .before .loop .last) (c .before .before .before .loop .i) (c .before .before .loop-test .taken) (c .if1 .left)
+loop-again c =
+    let at-loop : tie.At-loop Inv-loop μ-loop = search in
+    let at-start : tie.Start Inv-loop μ-loop = search in
+    at-loop .loop .inv
+    ∙ sorted-step (at-start .args .recording .now) (at-loop .loop .last) (at-loop .loop .i) (c .before .before .loop-test .taken) (c .if1 .left)
 
 returns-2 : tie.Need-returns-2 Inv-loop μ-loop
-returns-2 c = sym (c .before .loop .inv ∙ sorted-end (c .before .before .args .recording .now) (c .before .loop .last) (c .before .loop .i) (c .loop-test .left))
+returns-2 c =
+    sym (c .before .loop .inv ∙ sorted-end (c .before .before .args .recording .now) (c .before .loop .last) (c .before .loop .i) (c .loop-test .left))
 
 pub is-sorted-spec : {M : Type 1} → statement M
 is-sorted-spec =
@@ -47,12 +38,12 @@ is-sorted-spec =
     (tie.spec
     Inv-loop
     μ-loop
-    loop-holds
-    mul-time
-    mul-time-2
-    shared-slice-read-time
+    (λ c. refl)
+    (λ c. omega arith)
+    (λ c. omega arith)
+    (λ c. omega arith)
     returns
-    add-i
-    loop-less
+    (λ c. omega arith)
+    (λ c. omega arith)
     loop-again
     returns-2)

@@ -2,17 +2,8 @@ use borrow.Author.Needs.{needs}
 use Rattle.recording.proofs.inner.part_ends.Statement.{statement}
 use Rattle.recording.proofs.inner.part_ends.Tie as tie
 
-enum-known-found : tie.Need-enum-known-found
-enum-known-found c = search needs
-
-enum-told : tie.Need-enum-told
-enum-told c = search needs
-
-returns : tie.Need-returns
-returns c = search needs
-
 returns-2 : tie.Need-returns-2
 returns-2 c = rw (c .enum-told .given .1)
 
 pub part-ends-spec : {M : Type 1} → statement M
-part-ends-spec = tie.close (tie.spec enum-known-found enum-told returns returns-2)
+part-ends-spec = tie.close (tie.spec (λ c. search needs) (λ c. search needs) (λ c. search needs) returns-2)

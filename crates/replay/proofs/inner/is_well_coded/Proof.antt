@@ -38,25 +38,25 @@ is-call-requires c κs = omega (arith, c .before .loop .inv .0)
 
 returns-3 : tie.Need-returns-3 Inv-loop μ-loop
 returns-3 c =
-    let a = c .before .before .before .before .before .before .before .args in
+    let at-start : tie.Start Inv-loop μ-loop = search in
+    let a = at-start .args in
     let l = c .before .before .before .loop in
-    coded-calls (a .room) (a .answers) (a .calls .now) (l .inv .0) false (sym (l .inv .1 ∙ all-stop _ (l .k) (a .answers) (c .before .before .loop-test .taken) (sym (c .before .is-call .ensures) ∙ not-true _ (c .if3 .taken))))
-
-add-k : tie.Need-add-k Inv-loop μ-loop
-add-k c = omega arith
-
-loop-less : tie.Need-loop-less Inv-loop μ-loop
-loop-less c = omega arith
+    coded-calls (a .room) (a .answers) (a .calls .now) (l .inv .0) false
+    (sym (l .inv .1 ∙ all-stop _ (l .k) (a .answers) (c .before .before .loop-test .taken) (sym (c .before .is-call .ensures) ∙ not-true _ (c .if3 .taken))))
 
 loop-again : tie.Need-loop-again Inv-loop μ-loop
 loop-again c =
-    let a = c .before .before .before .before .before .before .before .args in
-    let l = c .before .before .before .loop in
-    (l .inv .0, l .inv .1 ∙ all-step _ (l .k) (a .answers) (c .before .before .loop-test .taken) (sym (c .before .is-call .ensures) ∙ not-false _ (c .if3 .left)))
+    let at-start : tie.Start Inv-loop μ-loop = search in
+    let a = at-start .args in
+    let l = c .before .before .before .loop in (
+      l .inv .0,
+      l .inv .1 ∙ all-step _ (l .k) (a .answers) (c .before .before .loop-test .taken) (sym (c .before .is-call .ensures) ∙ not-false _ (c .if3 .left)),
+    )
 
 returns-4 : tie.Need-returns-4 Inv-loop μ-loop
 returns-4 c =
-    let a = c .before .before .before .before .before .args in
+    let at-start : tie.Start Inv-loop μ-loop = search in
+    let a = at-start .args in
     let l = c .before .loop in
     coded-calls (a .room) (a .answers) (a .calls .now) (l .inv .0) true (sym (l .inv .1 ∙ all-end _ (l .k) (a .answers) (c .loop-test .left)))
 
@@ -71,7 +71,7 @@ is-well-coded-spec =
     loop-holds
     is-call-requires
     returns-3
-    add-k
-    loop-less
+    (λ c. omega arith)
+    (λ c. omega arith)
     loop-again
     returns-4)

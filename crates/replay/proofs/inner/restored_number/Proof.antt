@@ -2,18 +2,6 @@ use borrow.Author.Needs.{needs}
 use Rattle.replay.proofs.inner.restored_number.Statement.{statement}
 use Rattle.replay.proofs.inner.restored_number.Tie as tie
 
-enum-known-a : tie.Need-enum-known-a
-enum-known-a c = search needs
-
-same-config-requires : tie.Need-same-config-requires
-same-config-requires c κs = search needs
-
-enum-known-a-2 : tie.Need-enum-known-a-2
-enum-known-a-2 c = search needs
-
-number-of-requires : tie.Need-number-of-requires
-number-of-requires c κs = search needs
-
 returns : tie.Need-returns
 returns c = rw (c .before .before .before .a .given .1, ← c .before .same-config .ensures, c .if1 .taken)
 
@@ -27,10 +15,10 @@ pub restored-number-spec : {M : Type 1} → statement M
 restored-number-spec =
     tie.close
     (tie.spec
-    enum-known-a
-    same-config-requires
-    enum-known-a-2
-    number-of-requires
+    (λ c. search needs)
+    (λ c κs. search needs)
+    (λ c. search needs)
+    (λ c κs. search needs)
     returns
     returns-2
     returns-3)

@@ -31,42 +31,20 @@ mul-s-2 c = omega (arith, c .before .before .pre .0 .inside (c .before .loop .k)
 slice-read-s : tie.Need-slice-read-s Inv-loop μ-loop
 slice-read-s c = omega (arith, c .before .before .before .pre .0 .inside (c .before .before .loop .k) (omega arith))
 
-add-s-2 : tie.Need-add-s-2 Inv-loop μ-loop
-add-s-2 c = omega arith
-
-mul-s-3 : tie.Need-mul-s-3 Inv-loop μ-loop
-mul-s-3 c = omega arith
-
-slice-read-s-2 : tie.Need-slice-read-s-2 Inv-loop μ-loop
-slice-read-s-2 c = omega arith
-
-add-s-3 : tie.Need-add-s-3 Inv-loop μ-loop
-add-s-3 c = omega arith
-
-mul-s-4 : tie.Need-mul-s-4 Inv-loop μ-loop
-mul-s-4 c = omega arith
-
-slice-write-s : tie.Need-slice-write-s Inv-loop μ-loop
-slice-write-s c = omega arith
-
-add-k : tie.Need-add-k Inv-loop μ-loop
-add-k c = omega arith
-
-loop-less : tie.Need-loop-less Inv-loop μ-loop
-loop-less c = omega arith
-
 loop-again : tie.Need-loop-again Inv-loop μ-loop
 loop-again c =
-    let f = c .before .before .before .loop .inv .2 in
-    let k = c .before .before .before .loop .k in (
+    let at-loop : tie.At-loop Inv-loop μ-loop = search in
+    let at-start : tie.Start Inv-loop μ-loop = search in
+    let f = at-loop .loop .inv .2 in
+    let k = at-loop .loop .k in (
       omega arith,
       simp length-set (omega arith),
-      filled-more f _ (omega (arith, c .before .before .before .before .pre .0 .room))
-          (rw (f .elsewhere (k * c .before .before .before .before .args .w + c .before .before .before .before .args .c) (c .before .before .before .before .pre .0 .unwritten k (omega arith)), f .elsewhere (c .before .before .before .before .args .v + k) (inr (omega arith)))),
+      filled-more f _ (omega (arith, at-start .pre .0 .room))
+          (rw (
+            f .elsewhere (k * at-start .args .w + at-start .args .c) (at-start .pre .0 .unwritten k (omega arith)),
+            f .elsewhere (at-start .args .v + k) (inr (omega arith)),
+          )),
     )
-
-same-length : tie.Need-same-length Inv-loop μ-loop
-same-length c = omega arith
 
 returns : tie.Need-returns Inv-loop μ-loop
 returns c =
@@ -84,14 +62,14 @@ add-column-spec =
     add-s
     mul-s-2
     slice-read-s
-    add-s-2
-    mul-s-3
-    slice-read-s-2
-    add-s-3
-    mul-s-4
-    slice-write-s
-    add-k
-    loop-less
+    (λ c. omega arith)
+    (λ c. omega arith)
+    (λ c. omega arith)
+    (λ c. omega arith)
+    (λ c. omega arith)
+    (λ c. omega arith)
+    (λ c. omega arith)
+    (λ c. omega arith)
     loop-again
-    same-length
+    (λ c. omega arith)
     returns)

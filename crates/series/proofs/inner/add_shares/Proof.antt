@@ -21,20 +21,11 @@ abbrev μ-loop : tie.MeasureT-loop
 loop-holds : tie.Need-loop-holds Inv-loop μ-loop
 loop-holds c = (omega arith, refl, shares-none _ _ (c .before .pre .1))
 
-next-share-requires : tie.Need-next-share-requires Inv-loop μ-loop
-next-share-requires c κs = omega arith
-
-add-done : tie.Need-add-done Inv-loop μ-loop
-add-done c = omega arith
-
-loop-less : tie.Need-loop-less Inv-loop μ-loop
-loop-less c = omega arith
-
 loop-again : tie.Need-loop-again Inv-loop μ-loop
-loop-again c = (omega arith, omega arith, shares-more (c .before .before .before .before .before .before .before .args .n) (c .before .before .before .before .before .loop .done) _ _ _ (c .before .before .before .before .before .loop .inv .2) (c .before .before .next-share .ensures))
-
-same-length : tie.Need-same-length Inv-loop μ-loop
-same-length c = omega arith
+loop-again c =
+    let at-loop : tie.At-loop Inv-loop μ-loop = search in
+    let at-start : tie.Start Inv-loop μ-loop = search in
+    (omega arith, omega arith, shares-more (at-start .args .n) (at-loop .loop .done) _ _ _ (at-loop .loop .inv .2) (c .before .before .next-share .ensures))
 
 returns : tie.Need-returns Inv-loop μ-loop
 returns c =
@@ -48,9 +39,9 @@ add-shares-spec =
     Inv-loop
     μ-loop
     loop-holds
-    next-share-requires
-    add-done
-    loop-less
+    (λ c κs. omega arith)
+    (λ c. omega arith)
+    (λ c. omega arith)
     loop-again
-    same-length
+    (λ c. omega arith)
     returns)

@@ -15,38 +15,31 @@ abbrev μ-loop : tie.MeasureT-loop
 loop-holds : tie.Need-loop-holds Inv-loop μ-loop
 loop-holds c = (refl, running-none _ _ _)
 
-add-term-requires : tie.Need-add-term-requires Inv-loop μ-loop
-add-term-requires c κs = omega arith
-
-is-infinite-requires : tie.Need-is-infinite-requires Inv-loop μ-loop
-is-infinite-requires c κs = search needs
-
-same-length : tie.Need-same-length Inv-loop μ-loop
-same-length c = omega arith
-
 returns : tie.Need-returns Inv-loop μ-loop
-returns c = run-infinite (c .before .before .before .before .before .before .before .before .before .args .n) (c .before .before .before .before .before .before .before .before .before .args .rounds) (c .before .before .before .before .before .before .before .loop .left) _ _ _ _ (omega arith) (c .before .before .before .before .before .before .before .loop .inv .1) (c .before .before .before .before .add-term .ensures) (sym (c .before .is-infinite .ensures) ∙ c .if1 .taken)
-
-same-length-2 : tie.Need-same-length-2 Inv-loop μ-loop
-same-length-2 c = omega arith
+returns c =
+    let at-add-term : tie.After-add-term Inv-loop μ-loop = search in
+    let at-loop : tie.At-loop Inv-loop μ-loop = search in
+    let at-start : tie.Start Inv-loop μ-loop = search in
+    run-infinite (at-start .args .n) (at-start .args .rounds) (at-loop .loop .left) _ _ _ _ (omega arith) (at-loop .loop .inv .1)
+    (at-add-term .add-term .ensures) (sym (c .before .is-infinite .ensures) ∙ c .if1 .taken)
 
 returns-2 : tie.Need-returns-2 Inv-loop μ-loop
-returns-2 c = run-tiny (c .before .before .before .before .before .before .before .before .before .before .args .n) (c .before .before .before .before .before .before .before .before .before .before .args .rounds) (c .before .before .before .before .before .before .before .before .loop .left) _ _ _ _ (omega arith) (c .before .before .before .before .before .before .before .before .loop .inv .1) (c .before .before .before .before .before .add-term .ensures) (sym (c .before .before .is-infinite .ensures) ∙ c .before .if1 .left) (c .if2 .taken)
-
-sub-left : tie.Need-sub-left Inv-loop μ-loop
-sub-left c = omega arith
-
-loop-less : tie.Need-loop-less Inv-loop μ-loop
-loop-less c = omega arith
+returns-2 c =
+    let at-add-term : tie.After-add-term Inv-loop μ-loop = search in
+    let at-loop : tie.At-loop Inv-loop μ-loop = search in
+    let at-start : tie.Start Inv-loop μ-loop = search in
+    run-tiny (at-start .args .n) (at-start .args .rounds) (at-loop .loop .left) _ _ _ _ (omega arith) (at-loop .loop .inv .1) (at-add-term .add-term .ensures)
+    (sym (c .before .before .is-infinite .ensures) ∙ c .before .if1 .left) (c .if2 .taken)
 
 loop-again : tie.Need-loop-again Inv-loop μ-loop
-loop-again c = (
-  omega arith,
-  run-more (c .before .before .before .before .before .before .before .before .before .before .args .n) (c .before .before .before .before .before .before .before .before .before .before .args .rounds) (c .before .before .before .before .before .before .before .before .loop .left) _ _ _ _ (omega arith) (c .before .before .before .before .before .before .before .before .loop .inv .1) (c .before .before .before .before .before .add-term .ensures) (sym (c .before .before .is-infinite .ensures) ∙ c .before .if1 .left) (c .if2 .left),
-)
-
-same-length-3 : tie.Need-same-length-3 Inv-loop μ-loop
-same-length-3 c = omega arith
+loop-again c =
+    let at-add-term : tie.After-add-term Inv-loop μ-loop = search in
+    let at-loop : tie.At-loop Inv-loop μ-loop = search in
+    let at-start : tie.Start Inv-loop μ-loop = search in (
+      omega arith,
+      run-more (at-start .args .n) (at-start .args .rounds) (at-loop .loop .left) _ _ _ _ (omega arith) (at-loop .loop .inv .1) (at-add-term .add-term .ensures)
+          (sym (c .before .before .is-infinite .ensures) ∙ c .before .if1 .left) (c .if2 .left),
+    )
 
 returns-3 : tie.Need-returns-3 Inv-loop μ-loop
 returns-3 c =
@@ -60,14 +53,14 @@ add-terms-spec =
     Inv-loop
     μ-loop
     loop-holds
-    add-term-requires
-    is-infinite-requires
-    same-length
+    (λ c κs. omega arith)
+    (λ c κs. search needs)
+    (λ c. omega arith)
     returns
-    same-length-2
+    (λ c. omega arith)
     returns-2
-    sub-left
-    loop-less
+    (λ c. omega arith)
+    (λ c. omega arith)
     loop-again
-    same-length-3
+    (λ c. omega arith)
     returns-3)

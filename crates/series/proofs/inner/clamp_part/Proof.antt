@@ -19,43 +19,15 @@ abbrev μ-loop : tie.MeasureT-loop
 loop-holds : tie.Need-loop-holds Inv-loop μ-loop
 loop-holds c = (omega arith, refl, filled-none)
 
-add-clamp : tie.Need-add-clamp Inv-loop μ-loop
-add-clamp c = omega arith
-
-mul-clamp : tie.Need-mul-clamp Inv-loop μ-loop
-mul-clamp c = omega arith
-
-slice-read-clamp : tie.Need-slice-read-clamp Inv-loop μ-loop
-slice-read-clamp c = omega arith
-
-clamp-requires : tie.Need-clamp-requires Inv-loop μ-loop
-clamp-requires c κs = search needs
-
-add-s : tie.Need-add-s Inv-loop μ-loop
-add-s c = omega arith
-
-mul-s : tie.Need-mul-s Inv-loop μ-loop
-mul-s c = omega arith
-
-slice-write-s : tie.Need-slice-write-s Inv-loop μ-loop
-slice-write-s c = omega arith
-
-add-k : tie.Need-add-k Inv-loop μ-loop
-add-k c = omega arith
-
-loop-less : tie.Need-loop-less Inv-loop μ-loop
-loop-less c = omega arith
-
 loop-again : tie.Need-loop-again Inv-loop μ-loop
 loop-again c =
-    let f = c .before .before .before .loop .inv .2 in (
+    let at-loop : tie.At-loop Inv-loop μ-loop = search in
+    let at-start : tie.Start Inv-loop μ-loop = search in
+    let f = at-loop .loop .inv .2 in (
       omega arith,
       simp length-set (omega arith),
-      filled-more f _ (omega arith) (c .clamp .ensures ∙ ap clamp (filled-ahead f (c .before .before .before .before .before .args .v + c .before .before .before .loop .k) (omega arith))),
+      filled-more f _ (omega arith) (c .clamp .ensures ∙ ap clamp (filled-ahead f (at-start .args .v + at-loop .loop .k) (omega arith))),
     )
-
-same-length : tie.Need-same-length Inv-loop μ-loop
-same-length c = omega arith
 
 returns : tie.Need-returns Inv-loop μ-loop
 returns c =
@@ -69,15 +41,15 @@ clamp-part-spec =
     Inv-loop
     μ-loop
     loop-holds
-    add-clamp
-    mul-clamp
-    slice-read-clamp
-    clamp-requires
-    add-s
-    mul-s
-    slice-write-s
-    add-k
-    loop-less
+    (λ c. omega arith)
+    (λ c. omega arith)
+    (λ c. omega arith)
+    (λ c κs. search needs)
+    (λ c. omega arith)
+    (λ c. omega arith)
+    (λ c. omega arith)
+    (λ c. omega arith)
+    (λ c. omega arith)
     loop-again
-    same-length
+    (λ c. omega arith)
     returns)

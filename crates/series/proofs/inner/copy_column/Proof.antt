@@ -38,23 +38,17 @@ mul-s-3 c = omega (arith, c .before .before .before .pre .room)
 slice-write-s : tie.Need-slice-write-s Inv-loop μ-loop
 slice-write-s c = omega (arith, c .before .before .before .pre .room)
 
-add-k : tie.Need-add-k Inv-loop μ-loop
-add-k c = omega arith
-
-loop-less : tie.Need-loop-less Inv-loop μ-loop
-loop-less c = omega arith
-
 loop-again : tie.Need-loop-again Inv-loop μ-loop
 loop-again c =
-    let f = c .before .before .loop .inv .2 in
-    let k = c .before .before .loop .k in (
+    let at-loop : tie.At-loop Inv-loop μ-loop = search in
+    let at-start : tie.Start Inv-loop μ-loop = search in
+    let f = at-loop .loop .inv .2 in
+    let k = at-loop .loop .k in (
       omega arith,
       simp length-set (omega arith),
-      filled-more f _ (omega (arith, c .before .before .before .pre .room)) (f .elsewhere (k * c .before .before .before .args .w + c .before .before .before .args .c) (c .before .before .before .pre .unwritten k (omega arith))),
+      filled-more f _ (omega (arith, at-start .pre .room))
+          (f .elsewhere (k * at-start .args .w + at-start .args .c) (at-start .pre .unwritten k (omega arith))),
     )
-
-same-length : tie.Need-same-length Inv-loop μ-loop
-same-length c = omega arith
 
 returns : tie.Need-returns Inv-loop μ-loop
 returns c =
@@ -75,8 +69,8 @@ copy-column-spec =
     add-s-2
     mul-s-3
     slice-write-s
-    add-k
-    loop-less
+    (λ c. omega arith)
+    (λ c. omega arith)
     loop-again
-    same-length
+    (λ c. omega arith)
     returns)

@@ -19,30 +19,6 @@ loop-holds : tie.Need-loop-holds Inv-loop μ-loop
 unfolding dot ofBits neg
 loop-holds c = (omega arith, refl)
 
-add-sum : tie.Need-add-sum Inv-loop μ-loop
-add-sum c = omega arith
-
-mul-sum : tie.Need-mul-sum Inv-loop μ-loop
-mul-sum c = omega arith
-
-shared-slice-read-sum : tie.Need-shared-slice-read-sum Inv-loop μ-loop
-shared-slice-read-sum c = omega arith
-
-add-sum-2 : tie.Need-add-sum-2 Inv-loop μ-loop
-add-sum-2 c = omega arith
-
-mul-sum-2 : tie.Need-mul-sum-2 Inv-loop μ-loop
-mul-sum-2 c = omega arith
-
-shared-slice-read-sum-2 : tie.Need-shared-slice-read-sum-2 Inv-loop μ-loop
-shared-slice-read-sum-2 c = omega arith
-
-add-k : tie.Need-add-k Inv-loop μ-loop
-add-k c = omega arith
-
-loop-less : tie.Need-loop-less Inv-loop μ-loop
-loop-less c = omega arith
-
 loop-again : tie.Need-loop-again Inv-loop μ-loop
 unfolding dot
 loop-again c = (omega arith, rw (add-one, c .before .before .before .loop .inv .1))
@@ -59,13 +35,13 @@ dot-product-spec =
     Inv-loop
     μ-loop
     loop-holds
-    add-sum
-    mul-sum
-    shared-slice-read-sum
-    add-sum-2
-    mul-sum-2
-    shared-slice-read-sum-2
-    add-k
-    loop-less
+    (λ c. omega arith)
+    (λ c. omega arith)
+    (λ c. omega arith)
+    (λ c. omega arith)
+    (λ c. omega arith)
+    (λ c. omega arith)
+    (λ c. omega arith)
+    (λ c. omega arith)
     loop-again
     returns)

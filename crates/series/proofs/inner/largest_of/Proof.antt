@@ -20,30 +20,11 @@ loop-holds : tie.Need-loop-holds Inv-loop μ-loop
 unfolding largest ofBits
 loop-holds c = (omega arith, refl)
 
-add-abs : tie.Need-add-abs Inv-loop μ-loop
-add-abs c = omega arith
-
-mul-abs : tie.Need-mul-abs Inv-loop μ-loop
-mul-abs c = omega arith
-
-shared-slice-read-abs : tie.Need-shared-slice-read-abs Inv-loop μ-loop
-shared-slice-read-abs c = omega arith
-
-abs-requires : tie.Need-abs-requires Inv-loop μ-loop
-abs-requires c κs = search needs
-
-max-requires : tie.Need-max-requires Inv-loop μ-loop
-max-requires c κs = search needs
-
-add-k : tie.Need-add-k Inv-loop μ-loop
-add-k c = omega arith
-
-loop-less : tie.Need-loop-less Inv-loop μ-loop
-loop-less c = omega arith
-
 loop-again : tie.Need-loop-again Inv-loop μ-loop
 unfolding largest
-loop-again c = (omega arith, rw (add-one, c .max .ensures, c .before .abs .ensures, c .before .before .before .before .loop .inv .1))
+loop-again c =
+    let at-loop : tie.At-loop Inv-loop μ-loop = search in
+    (omega arith, rw (add-one, c .max .ensures, c .before .abs .ensures, at-loop .loop .inv .1))
 
 returns : tie.Need-returns Inv-loop μ-loop
 returns c =
@@ -57,12 +38,12 @@ largest-of-spec =
     Inv-loop
     μ-loop
     loop-holds
-    add-abs
-    mul-abs
-    shared-slice-read-abs
-    abs-requires
-    max-requires
-    add-k
-    loop-less
+    (λ c. omega arith)
+    (λ c. omega arith)
+    (λ c. omega arith)
+    (λ c κs. search needs)
+    (λ c κs. search needs)
+    (λ c. omega arith)
+    (λ c. omega arith)
     loop-again
     returns)

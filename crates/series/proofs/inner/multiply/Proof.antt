@@ -2,18 +2,11 @@ use borrow.Author.Needs.{needs}
 use Rattle.series.proofs.inner.multiply.Statement.{statement}
 use Rattle.series.proofs.inner.multiply.Tie as tie
 
-multiply-fours-requires : tie.Need-multiply-fours-requires
-multiply-fours-requires c κs = search needs
-
-multiply-rest-requires : tie.Need-multiply-rest-requires
-multiply-rest-requires c κs = search needs
-
-same-length : tie.Need-same-length
-same-length c = search needs
-
 returns : tie.Need-returns
-returns c = c .before .before .multiply-rest .ensures _ (c .before .before .before .before .before .before .multiply-fours .ensures .1)
+returns c =
+    let at-multiply-fours : tie.After-multiply-fours = search in
+    c .before .before .multiply-rest .ensures _ (at-multiply-fours .multiply-fours .ensures .1)
 
 pub multiply-spec : {M : Type 1} → statement M
 multiply-spec =
-    tie.close (tie.spec multiply-fours-requires multiply-rest-requires same-length returns)
+    tie.close (tie.spec (λ c κs. search needs) (λ c κs. search needs) (λ c. search needs) returns)

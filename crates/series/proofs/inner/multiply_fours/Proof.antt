@@ -16,99 +16,33 @@ Inv-loop s₀ n v w next r₀ s r = (r ≤ n) × (length s ≡ length s₀) × P
 abbrev μ-loop : tie.MeasureT-loop
 μ-loop s₀ n v w next r₀ s r = n - r
 
-mul-w : tie.Need-mul-w Inv-loop μ-loop
-mul-w c = omega arith
-
-add-w : tie.Need-add-w Inv-loop μ-loop
-add-w c = omega arith
-
-mul-next : tie.Need-mul-next Inv-loop μ-loop
-mul-next c = omega arith
-
-mul-next-2 : tie.Need-mul-next-2 Inv-loop μ-loop
-mul-next-2 c = omega arith
-
-add-next : tie.Need-add-next Inv-loop μ-loop
-add-next c = omega arith
-
 loop-holds : tie.Need-loop-holds Inv-loop μ-loop
 loop-holds c = (omega arith, refl, filled-none)
 
-add-loop : tie.Need-add-loop Inv-loop μ-loop
-add-loop c = omega arith
-
 mul-dot-four : tie.Need-mul-dot-four Inv-loop μ-loop
-mul-dot-four c = omega (arith, row-in (c .before .before .loop .r + 3) (c .before .before .before .before .args .n) (width (c .before .before .before .before .args .n)) (omega arith))
-
-add-dot-four : tie.Need-add-dot-four Inv-loop μ-loop
-add-dot-four c = omega arith
+mul-dot-four c =
+    let at-start : tie.Start Inv-loop μ-loop = search in
+    omega (arith, row-in (c .before .before .loop .r + 3) (at-start .args .n) (width (at-start .args .n)) (omega arith))
 
 add-dot-four-2 : tie.Need-add-dot-four-2 Inv-loop μ-loop
-add-dot-four-2 c = omega (arith, row-in (c .before .before .loop .r + 3) (c .before .before .before .before .args .n) (width (c .before .before .before .before .args .n)) (omega arith))
+add-dot-four-2 c =
+    let at-start : tie.Start Inv-loop μ-loop = search in
+    omega (arith, row-in (c .before .before .loop .r + 3) (at-start .args .n) (width (at-start .args .n)) (omega arith))
 
 dot-four-requires : tie.Need-dot-four-requires Inv-loop μ-loop
-dot-four-requires c κs = omega (arith, row-in (c .before .before .loop .r + 3) (c .before .before .before .before .args .n) (width (c .before .before .before .before .args .n)) (omega arith))
-
-add-s : tie.Need-add-s Inv-loop μ-loop
-add-s c = omega arith
-
-mul-s : tie.Need-mul-s Inv-loop μ-loop
-mul-s c = omega arith
-
-slice-write-s : tie.Need-slice-write-s Inv-loop μ-loop
-slice-write-s c = omega arith
-
-add-s-2 : tie.Need-add-s-2 Inv-loop μ-loop
-add-s-2 c = omega arith
-
-add-s-3 : tie.Need-add-s-3 Inv-loop μ-loop
-add-s-3 c = omega arith
-
-mul-s-2 : tie.Need-mul-s-2 Inv-loop μ-loop
-mul-s-2 c = omega arith
-
-slice-write-s-2 : tie.Need-slice-write-s-2 Inv-loop μ-loop
-slice-write-s-2 c = simp length-set (omega arith)
-
-add-s-4 : tie.Need-add-s-4 Inv-loop μ-loop
-add-s-4 c = omega arith
-
-add-s-5 : tie.Need-add-s-5 Inv-loop μ-loop
-add-s-5 c = omega arith
-
-mul-s-3 : tie.Need-mul-s-3 Inv-loop μ-loop
-mul-s-3 c = omega arith
-
-slice-write-s-3 : tie.Need-slice-write-s-3 Inv-loop μ-loop
-slice-write-s-3 c = simp length-set (omega arith)
-
-add-s-6 : tie.Need-add-s-6 Inv-loop μ-loop
-add-s-6 c = omega arith
-
-add-s-7 : tie.Need-add-s-7 Inv-loop μ-loop
-add-s-7 c = omega arith
-
-mul-s-4 : tie.Need-mul-s-4 Inv-loop μ-loop
-mul-s-4 c = omega arith
-
-slice-write-s-4 : tie.Need-slice-write-s-4 Inv-loop μ-loop
-slice-write-s-4 c = simp length-set (omega arith)
-
-add-r : tie.Need-add-r Inv-loop μ-loop
-add-r c = omega arith
-
-loop-less : tie.Need-loop-less Inv-loop μ-loop
-loop-less c = omega arith
+dot-four-requires c κs =
+    let at-start : tie.Start Inv-loop μ-loop = search in
+    omega (arith, row-in (c .before .before .loop .r + 3) (at-start .args .n) (width (at-start .args .n)) (omega arith))
 
 loop-again : tie.Need-loop-again Inv-loop μ-loop
-loop-again c = (
-  omega arith,
-  simp length-set (omega arith),
-  product-four (c .before .before .before .before .before .args .n) (c .before .before .before .before .before .args .v) (c .before .before .before .loop .r) (omega arith) _ _ (c .before .before .before .loop .inv .2) (c .dot-four .result) (omega arith) (omega arith) (c .dot-four .ensures),
-)
-
-same-length : tie.Need-same-length Inv-loop μ-loop
-same-length c = omega arith
+loop-again c =
+    let at-loop : tie.At-loop Inv-loop μ-loop = search in
+    let at-start : tie.Start Inv-loop μ-loop = search in (
+      omega arith,
+      simp length-set (omega arith),
+      product-four (at-start .args .n) (at-start .args .v) (at-loop .loop .r) (omega arith) _ _ (at-loop .loop .inv .2) (c .dot-four .result) (omega arith)
+          (omega arith) (c .dot-four .ensures),
+    )
 
 returns : tie.Need-returns Inv-loop μ-loop
 returns c = (omega arith, c .before .loop .inv .2)
@@ -119,34 +53,34 @@ multiply-fours-spec =
     (tie.spec
     Inv-loop
     μ-loop
-    mul-w
-    add-w
-    mul-next
-    mul-next-2
-    add-next
+    (λ c. omega arith)
+    (λ c. omega arith)
+    (λ c. omega arith)
+    (λ c. omega arith)
+    (λ c. omega arith)
     loop-holds
-    add-loop
+    (λ c. omega arith)
     mul-dot-four
-    add-dot-four
+    (λ c. omega arith)
     add-dot-four-2
     dot-four-requires
-    add-s
-    mul-s
-    slice-write-s
-    add-s-2
-    add-s-3
-    mul-s-2
-    slice-write-s-2
-    add-s-4
-    add-s-5
-    mul-s-3
-    slice-write-s-3
-    add-s-6
-    add-s-7
-    mul-s-4
-    slice-write-s-4
-    add-r
-    loop-less
+    (λ c. omega arith)
+    (λ c. omega arith)
+    (λ c. omega arith)
+    (λ c. omega arith)
+    (λ c. omega arith)
+    (λ c. omega arith)
+    (λ c. simp length-set (omega arith))
+    (λ c. omega arith)
+    (λ c. omega arith)
+    (λ c. omega arith)
+    (λ c. simp length-set (omega arith))
+    (λ c. omega arith)
+    (λ c. omega arith)
+    (λ c. omega arith)
+    (λ c. simp length-set (omega arith))
+    (λ c. omega arith)
+    (λ c. omega arith)
     loop-again
-    same-length
+    (λ c. omega arith)
     returns)

@@ -17,60 +17,33 @@ Inv-loop s₀ n v done w next r₀ s r = (r ≤ n) × (length s ≡ length s₀)
 abbrev μ-loop : tie.MeasureT-loop
 μ-loop s₀ n v done w next r₀ s r = n - r
 
-mul-w : tie.Need-mul-w Inv-loop μ-loop
-mul-w c = omega arith
-
-add-w : tie.Need-add-w Inv-loop μ-loop
-add-w c = omega arith
-
-mul-next : tie.Need-mul-next Inv-loop μ-loop
-mul-next c = omega arith
-
-mul-next-2 : tie.Need-mul-next-2 Inv-loop μ-loop
-mul-next-2 c = omega arith
-
-add-next : tie.Need-add-next Inv-loop μ-loop
-add-next c = omega arith
-
 loop-holds : tie.Need-loop-holds Inv-loop μ-loop
 loop-holds c = (omega arith, refl, λ l p. p)
 
 mul-dot-product : tie.Need-mul-dot-product Inv-loop μ-loop
-mul-dot-product c = omega (arith, row-in (c .before .before .loop .r) (c .before .before .before .before .args .n) (width (c .before .before .before .before .args .n)) (omega arith))
-
-add-dot-product : tie.Need-add-dot-product Inv-loop μ-loop
-add-dot-product c = omega arith
+mul-dot-product c =
+    let at-start : tie.Start Inv-loop μ-loop = search in
+    omega (arith, row-in (c .before .before .loop .r) (at-start .args .n) (width (at-start .args .n)) (omega arith))
 
 add-dot-product-2 : tie.Need-add-dot-product-2 Inv-loop μ-loop
-add-dot-product-2 c = omega (arith, row-in (c .before .before .loop .r) (c .before .before .before .before .args .n) (width (c .before .before .before .before .args .n)) (omega arith))
+add-dot-product-2 c =
+    let at-start : tie.Start Inv-loop μ-loop = search in
+    omega (arith, row-in (c .before .before .loop .r) (at-start .args .n) (width (at-start .args .n)) (omega arith))
 
 dot-product-requires : tie.Need-dot-product-requires Inv-loop μ-loop
-dot-product-requires c κs = omega (arith, row-in (c .before .before .loop .r) (c .before .before .before .before .args .n) (width (c .before .before .before .before .args .n)) (omega arith))
-
-add-s : tie.Need-add-s Inv-loop μ-loop
-add-s c = omega arith
-
-mul-s : tie.Need-mul-s Inv-loop μ-loop
-mul-s c = omega arith
-
-slice-write-s : tie.Need-slice-write-s Inv-loop μ-loop
-slice-write-s c = omega arith
-
-add-r : tie.Need-add-r Inv-loop μ-loop
-add-r c = omega arith
-
-loop-less : tie.Need-loop-less Inv-loop μ-loop
-loop-less c = omega arith
+dot-product-requires c κs =
+    let at-start : tie.Start Inv-loop μ-loop = search in
+    omega (arith, row-in (c .before .before .loop .r) (at-start .args .n) (width (at-start .args .n)) (omega arith))
 
 loop-again : tie.Need-loop-again Inv-loop μ-loop
-loop-again c = (
-  omega arith,
-  simp length-set (omega arith),
-  λ l p. product-more (c .before .before .before .before .before .args .n) (c .before .before .before .before .before .args .v) (c .before .before .before .loop .r) (omega arith) _ _ (c .before .before .before .loop .inv .2 l p) _ (omega arith) (omega arith) (c .dot-product .ensures),
-)
-
-same-length : tie.Need-same-length Inv-loop μ-loop
-same-length c = omega arith
+loop-again c =
+    let at-loop : tie.At-loop Inv-loop μ-loop = search in
+    let at-start : tie.Start Inv-loop μ-loop = search in (
+      omega arith,
+      simp length-set (omega arith),
+      λ l p. product-more (at-start .args .n) (at-start .args .v) (at-loop .loop .r) (omega arith) _ _ (at-loop .loop .inv .2 l p) _ (omega arith) (omega arith)
+          (c .dot-product .ensures),
+    )
 
 returns : tie.Need-returns Inv-loop μ-loop
 returns c =
@@ -83,21 +56,21 @@ multiply-rest-spec =
     (tie.spec
     Inv-loop
     μ-loop
-    mul-w
-    add-w
-    mul-next
-    mul-next-2
-    add-next
+    (λ c. omega arith)
+    (λ c. omega arith)
+    (λ c. omega arith)
+    (λ c. omega arith)
+    (λ c. omega arith)
     loop-holds
     mul-dot-product
-    add-dot-product
+    (λ c. omega arith)
     add-dot-product-2
     dot-product-requires
-    add-s
-    mul-s
-    slice-write-s
-    add-r
-    loop-less
+    (λ c. omega arith)
+    (λ c. omega arith)
+    (λ c. omega arith)
+    (λ c. omega arith)
+    (λ c. omega arith)
     loop-again
-    same-length
+    (λ c. omega arith)
     returns)
