@@ -9,11 +9,11 @@ USE = re.compile(r"^((?:ghost )?use )([^\s{]+)\.\{(.*)\}(;?)$")
 BEFORE, AFTER = r"(?<![^\s()\[\]{},;.«»⌜⌝‵!])", r"(?![^\s()\[\]{},;.«»⌜⌝])"
 
 def is_used(name, body):
-    """Each part of an operator's name, or the name, stands in the text by itself."""
+    """The name, or each part of an operator's name, stands in the text by itself."""
     name = name.split(" as ")[-1].strip()
     operator = name.startswith("_") or name.endswith("_") or re.search(r"_\W|\W_", name)
     parts = [p for p in name.split("_") if p] if operator else [name.strip("«»")]
-    return all(re.search(BEFORE + re.escape(p) + AFTER, body) for p in parts)
+    return any(all(re.search(BEFORE + re.escape(p) + AFTER, body) for p in ps) for ps in (parts, [name]))
 
 def cleaned(text):
     lines = text.split("\n")

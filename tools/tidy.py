@@ -8,23 +8,25 @@ Run at the root of the repository. For each crates/CRATE/proofs/**/Proof.antt ov
    generated name of the place, so it comes from the code's own calls, branches and loops; `search` finds the path, so no text counts steps.
    Named are the places more than 3 steps back, and those 2 or 3 steps back that an answer uses twice. `at-start .args`, used four times, is `a`;
  - answers a need that one tactic closes where `tie.spec` asks it, `(λ c κs. search needs)`, instead of in a declaration of its own;
- - breaks lines of more than N (160) characters.
+ - breaks lines of more than N (160) characters, but for imports and `unfolding` lines (breaks.py).
 It changes no signature but by line breaks (--signatures: it names the places in those of a proof's own lemmas too, `(c : tie.P) → ..`, which say the
 same by computation), and nothing that it cannot improve. A second run changes nothing.
-tidy.py --lint [CRATE ..] lists chains of more than 3, lines of more than 160 characters and missing head lines, and ends 1 where there are any (no rt).
+tidy.py --lint [CRATE ..] lists function proofs whose first line is no head line, chains of more than 3, lines of .antt of more than 160 characters
+(imports and `unfolding` lines apart) and lines of .rt of more than 200, and ends 1 where there are any (no rt).
 tidy.py CRATE FN --respec, after a change of the code, writes the arguments of `tie.spec` anew in the order of the needs as they are now, and prints them.
 It proves the crate by `rt dev` before and after. An answer that is refused is tried with more places on the way, then with its own text but for
 line breaks, then as it was; so what is left always proves. --dry writes and proves nothing; --trust skips the first proof (the crate is known to
 prove); --check runs `rt check CRATE` before and after and prints the time of both. It prints the counts and the files that have no head line (the
 idea, and the invariant in words), which no tool can write.
 """
-import glob, os, re, resource, shutil, subprocess, sys, textwrap, time
+import glob, os, re, resource, shutil, subprocess, sys, time
 from collections import Counter
+sys.dont_write_bytecode = True
+from breaks import CLOSE, NAME as W, ONE_LINE, OPEN, WIDTH, wrap_line
 
-WIDTH = 160
 HOPS = [16, 8, 4]            # the most steps that one `search` goes back, by attempt
 FAR = 3                      # a chain longer than this is always named
-W = r"[^\s(){}\[\],.;:]"     # a character of a name
+CONTRACT_WIDTH = 200         # of a line of .rt
 
 # ---------------------------------------------------------------- what the generated modules say
 class Places:
@@ -62,84 +64,6 @@ def name_of(place):
     if place.startswith("After-"): return "at-" + place[6:]
     if re.match(r"(At|In|Left)-", place): return place[0].lower() + place[1:]
     return "at-" + place[0].lower() + place[1:]
-
-# ---------------------------------------------------------------- line breaks
-OPEN, CLOSE = "([{", ")]}"
-def tokens(text):
-    """(token, column, depth at its start)"""
-    out, depth = [], 0
-    for m in re.finditer(r"\S+", text):
-        out.append((m.group(), m.start(), depth))
-        for ch in m.group():
-            if ch in OPEN: depth += 1
-            elif ch in CLOSE: depth -= 1
-    return out
-
-NEVER = ("let", "λ", "record", "rw", "simp", "omega", "search", "cc", "unfolding", "where", ":", "∙", "←", "(", "{", "[", "|", "sym", "ap", "elim", "‵", "×")
-def wrap_code(line, width):
-    """Breaks at the least depth that serves. A clause breaks after its `=` first. A walk by hand (steps `.. ! .. $`) breaks after a `$`, and stays flush."""
-    base = len(line) - len(line.lstrip())
-    out, shift = [], 0      # shift: the depth where what is left starts
-    m = re.match(r"\s*(?!let |use |module )(?:" + W + r"+ )+?= ", line)
-    if m and len(line) > width:
-        out.append(m.group().rstrip()); base += 4; line = " " * base + line[m.end():]
-    walk = re.search(r" ! .*\$", line)
-    # a typed let breaks after its `=`, not within its type
-    m = re.match(r"\s*let \S+ : ", line)
-    if m and len(line) > width:
-        eq = [col for tok, col, d in tokens(line) if tok == "=" and d == 0]
-        if eq and eq[0] < width:
-            out.append(line[:eq[0] + 1]); line = " " * (base + 4) + line[eq[0] + 2:]; base += 4
-    step = 0 if line.lstrip()[:1] in "([{" else 1
-    while len(line) > width:
-        ind = len(line) - len(line.lstrip())
-        cand, lam, prev = [], False, None
-        for tok, col, d in tokens(line):
-            bare = tok.lstrip("([{")
-            last = prev.lstrip("([{") if prev else None
-            ok = prev is not None and ind + 8 < col <= width and not lam and not re.match(r"\.[\w«]", tok)
-            ok = ok and tok not in ("in", "=", ":", "|", "at", "as", "where", "!", "$", "∵") and last not in NEVER
-            if ok:
-                pr, flush = d, False
-                if walk and prev == "$": pr, flush = -100, True
-                elif walk and prev == "∵": pr, flush = -99, True
-                elif walk and last.endswith(".") and d > 0: pr, flush = -50, True
-                elif prev == "in": pr, flush = d - 0.5, shift + d == 0
-                elif prev[-1] in ",;": pr = d - 0.2
-                elif tok == "→": pr = d - 0.15
-                elif tok in ("∙", "↦", "∷", "×"): pr = d - 0.1
-                elif prev in ("!", "∷", "$") or last.endswith("."): pr = d + 0.6
-                elif prev == "=": pr = d + 0.3
-                cand.append((pr, -col, col, d, flush))
-            if bare.startswith("λ"): lam = True
-            if lam and bare.endswith("."): lam = False
-            prev = tok
-        if not cand: break
-        _, _, col, d, flush = min(cand)
-        out.append(line[:col].rstrip())
-        shift += d
-        line = " " * (base if flush and base else max(base + 2 * max(shift + step, 1), 4)) + line[col:]
-    return out + [line]
-
-def wrap_line(line, width):
-    if len(line) <= width: return [line]
-    ind = re.match(r"\s*", line).group()
-    if line.lstrip().startswith("--"):
-        body = line.lstrip()[2:].strip()
-        return textwrap.wrap(body, width, initial_indent=ind + "-- ", subsequent_indent=ind + "-- ", break_long_words=False, break_on_hyphens=False)
-    if line.startswith("use "):
-        return wrap_use(line, width)
-    return wrap_code(line, width)
-
-def wrap_use(line, width):
-    m = re.match(r"(use \S+\.)\{(.*)\}$", line)
-    if not m: return [line]
-    out, cur = [], []
-    for n in m.group(2).split(", "):
-        if cur and len(m.group(1)) + len(", ".join(cur + [n])) + 2 > width:
-            out.append(m.group(1) + "{" + ", ".join(cur) + "}"); cur = []
-        cur.append(n)
-    return out + [m.group(1) + "{" + ", ".join(cur) + "}"]
 
 # ---------------------------------------------------------------- one declaration
 TRIVIAL = re.compile(r"(search needs|omega arith|simp length-set(?: \(omega arith\))?|tt|refl|cc|search|c(?: \.before){0,3}(?: \.(?!before)\S+)+)$")
@@ -395,8 +319,9 @@ def where(text, line):
 def figures(texts):
     s = "\n".join(texts)
     c = [len(m.split()) for m in re.findall(r"(?:\.before ?)+", s)]
-    return dict(before=s.count(".before"), chain=max(c, default=0), over3=sum(x > 3 for x in c), line=max(map(len, s.split("\n"))),
-                over160=sum(len(l) > 160 for l in s.split("\n")), lines=sum(t.count("\n") for t in texts))
+    widths = [len(l) for l in s.split("\n") if not l.startswith(ONE_LINE)]
+    return dict(before=s.count(".before"), chain=max(c, default=0), over3=sum(x > 3 for x in c), line=max(widths),
+                over160=sum(x > 160 for x in widths), lines=sum(t.count("\n") for t in texts))
 
 def rt(*words):
     u0, t0 = resource.getrusage(resource.RUSAGE_CHILDREN), time.time()
@@ -414,19 +339,15 @@ def timed(crate):
 def lint(crates):
     """What the style forbids and a glance at the text shows; no rt."""
     bad = 0
-    for p in sorted(glob.glob("crates/*/proofs/**/Proof.antt", recursive=True)):
+    for p in sorted(glob.glob("crates/*/**/*.antt", recursive=True) + glob.glob("crates/*/src/**/*.rt", recursive=True)):
         if crates and p.split("/")[1] not in crates: continue
-        t = open(p).read()
-        found = [] if t.startswith("-- ") or re.search(r"\n\n-- ", t.split(" : ")[0]) else [(1, "no head line")]
-        for i, l in enumerate(t.split("\n"), 1):
-            if len(l) > WIDTH and not l.startswith(("use ", "unfolding ")): found.append((i, f"{len(l)} characters"))
+        lines, most, found = open(p).read().split("\n"), CONTRACT_WIDTH if p.endswith(".rt") else WIDTH, []
+        if p.endswith("/Proof.antt") and not lines[0].startswith("-- "): found.append((1, "no head line"))
+        for i, l in enumerate(lines, 1):
+            if len(l) > most and not l.startswith(ONE_LINE): found.append((i, f"{len(l)} characters"))
             if re.search(r"(\.before ){%d}\.before" % FAR, l): found.append((i, f"a chain of more than {FAR} `.before`"))
         for i, w in found: print(f"{p}:{i}: {w}")
         bad += len(found)
-    for p in sorted(glob.glob("crates/*/specs/**/*.antt", recursive=True) + glob.glob("crates/*/proofs/**/*.antt", recursive=True)):
-        if p.endswith("/Proof.antt") or crates and p.split("/")[1] not in crates: continue
-        for i, l in enumerate(open(p).read().split("\n"), 1):
-            if len(l) > WIDTH and not l.startswith(("use ", "unfolding ")): print(f"{p}:{i}: {len(l)} characters"); bad += 1
     sys.exit(1 if bad else 0)
 
 def main():
@@ -495,7 +416,8 @@ def main():
     after = figures(list(new.values()))
     changed = sum(new[f.path] != f.old for f in files)
     print(f"{crate}: {len(files)} proofs, {changed} changed")
-    for k, w in (("before", "`.before`"), ("over3", "chains of more than 3"), ("chain", "longest chain"), ("line", "longest line"), ("over160", "lines of more than 160"), ("lines", "lines")):
+    for k, w in (("before", "`.before`"), ("over3", "chains of more than 3"), ("chain", "longest chain"), ("line", "longest line"),
+                 ("over160", "lines of more than 160"), ("lines", "lines")):
         print(f"  {w}: {before[k]} -> {after[k]}")
     bare = [f.path for f in files if not re.search(r"^-- ", new[f.path], re.M)]
     if bare: print("  no head line: " + ", ".join(p.split("/proofs/")[1].rsplit("/", 1)[0] for p in bare))

@@ -83,7 +83,8 @@ pub stored-none : {A : Type 0} (d : A) (f : ℕ → A) (l : List A) → Stored d
 stored-none d f l = record { same-length = refl; done = λ i h. absurd (omega arith); rest = λ i h. refl }
 
 -- one value at every place
-pub stored-all : {A : Type 0} (d v : A) (x : ℕ) (before after : List A) → Stored d (λ i. v) x before after → length before ≤ x → after ≡ replicate (length before) v
+pub stored-all : {A : Type 0} (d v : A) (x : ℕ) (before after : List A) → Stored d (λ i. v) x before after → length before ≤ x
+    → after ≡ replicate (length before) v
 stored-all d v x before after s h =
     let e = filled after v d (λ i g. s .done i (omega (arith, s .same-length))) in
     rw (s .same-length) at e

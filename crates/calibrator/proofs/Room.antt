@@ -1,7 +1,7 @@
 -- What is known of tables of the right lengths.
 use Prim.Native.Nat.{ℕ, _*_}
 use mathlib.Core.Path.{_≡_}
-use mathlib.Core.Bool.{false, not, _||_}
+use mathlib.Core.Bool.{Bool, false, not, _||_}
 use lib.Dec.{eqb}
 use borrow.Author.Tests.{eqb-true, not-false}
 use Rattle.basics.proofs.Tests.{neither}
@@ -34,3 +34,8 @@ pub room-known : (c : MicroPriceConfig) (stay moved totals : ℕ) → checkRoom 
 room-known c stay moved totals e =
     let f = first-fine (checkConfig c) (refuseIf (wrongLengths (states c) stay moved totals) 7) e in
     (valid-known c (not-false (valid c) (if-fine (not (valid c)) 1 (f .0))), if-fine (wrongLengths (states c) stay moved totals) 7 (f .1))
+
+-- where the configuration is valid, the lengths are left to judge
+pub lengths-judged : (c : MicroPriceConfig) (stay moved totals : ℕ) (v : Bool) → v ≡ valid c → not v ≡ false → (n : ℕ) → n ≡ states c
+    → (w : Bool) → w ≡ wrongLengths n stay moved totals → checkRoom c stay moved totals ≡ refuseIf w 7
+lengths-judged c stay moved totals v e f n g w h = rw (← e, not-false v f, ← g, ← h)

@@ -1,5 +1,5 @@
 -- One quote: what its event and its refusals come to.
-use Prim.Native.Nat.{ℕ, _+_, _≤_}
+use Prim.Native.Nat.{ℕ, _+_, _≤_, _<_, _^_}
 use mathlib.Core.Path.{_≡_, refl, sym, ap, _∙_}
 use mathlib.Core.Bool.{Bool, true, false, not, _||_, or-true}
 use mathlib.Core.List.{List}
@@ -19,6 +19,7 @@ use Rattle.config.specs.declared.MicroPriceConfig.{MicroPriceConfig}
 use Rattle.quotes.specs.Known.{Accepted}
 use Rattle.quotes.specs.Quotes.{checkQuote}
 use Rattle.quotes.specs.Neighbours.{neighboursOf}
+use Rattle.quotes.specs.declared.Neighbours.{Neighbours}
 use Rattle.quotes.specs.declared.Neighbours.the-variants.{Counted}
 use Rattle.quotes.specs.declared.Pair.{Pair}
 use Rattle.quotes.specs.declared.Skip.{Skip}
@@ -31,7 +32,7 @@ use Rattle.quotes.proofs.Ticks.{half-ticks-most}
 use Rattle.tally.specs.Entries.{Tables, tables, enterBoth, forthOf, backOf, touchedOver}
 use Rattle.tally.specs.Events.{skip}
 use Rattle.tally.specs.Fits.{Placed}
-use Rattle.tally.specs.Limits.{overCounter}
+use Rattle.tally.specs.Limits.{counterLimit, overCounter}
 use Rattle.tally.specs.Rules.{Memory}
 use Rattle.tally.specs.declared.PairEntry.{PairEntry}
 use Rattle.calibrator.specs.Record.{kindOf, countsOf, memory, ended, skipCount, addSkip, addPair, accepted, limited, pickDone, noCounters, entryOf, Countable}
@@ -54,6 +55,11 @@ pair-known c p q e =
     let b = first-fine (checkQuote c q) (refuseIf (earlier (Quoted p) q) 5) (a .1) in
     (fine-known c p (not-refused (checkQuote c p) (if-fine _ 8 (a .0))), fine-known c q (b .0), ltb-false _ _ (if-fine _ 5 (b .1)))
 
+-- both quotes fine, the times are left to judge
+pub times-judged : (c : MicroPriceConfig) (p q : TopOfBook) (j k : Check) → j ≡ checkQuote c p → j ≡ Fine → k ≡ checkQuote c q → k ≡ Fine
+    → judgePair c p q ≡ refuseIf (earlier (Quoted p) q) 5
+times-judged c p q j k e f g h = rw (← e, f, ← g, h)
+
 -- a pair that two accepted quotes make
 pub counted-known : (c : MicroPriceConfig) (p q : TopOfBook) → Valid c → Accepted c p → Accepted c q → (e : Pair) → neighboursOf c p q ≡ Counted e
     → Countable c e
@@ -66,12 +72,13 @@ counted-known c p q v f g e h =
       mid-to-most = omega (arith, k .to-mid, half-ticks-most c q v g);
     }
 
--- such a pair in tables of the right lengths
-pub pair-placed : (c : MicroPriceConfig) (e : Pair) (a b t : ℕ) → Valid c → Countable c e → wrongLengths (states c) a b t ≡ false
-    → Placed (states c) (entryOf e) a b t
-pair-placed c e a b t v k w =
+-- such a pair, the number of states and the entry as the code has them, in tables of the right lengths
+pub pair-placed : (c : MicroPriceConfig) (p : Pair) {n : ℕ} {e : PairEntry} {a b t : ℕ} → n ≡ states c → e ≡ entryOf p → Valid c → Countable c p
+    → wrongLengths (states c) a b t ≡ false → Placed n e a b t
+pair-placed c p {n} {e} {a} {b} {t} n-is e-is v k w =
     let z = lengths-known (states c) a b t w in
-    record {
+    rw (n-is, e-is)
+    (record {
       few = v .states-most;
       from-below = k .from-at .below;
       to-below = k .to-at .below;
@@ -82,14 +89,18 @@ pair-placed c e a b t v k w =
       totals-cells = z .totals-cells;
       mid-from-most = k .mid-from-most;
       mid-to-most = k .mid-to-most;
-    }
+    })
 
--- a counter that may be added to, or not
-pub may : (n : ℕ) (b : Bool) → b ≡ not (overCounter (n + 1)) → b ≡ true → overCounter (n + 1) ≡ false
-may n b e f = not-true _ (sym e ∙ f)
+-- a test b whether something is not over its limit
+pub within-limit : (b over : Bool) → b ≡ not over → b ≡ true → over ≡ false
+within-limit b over e f = not-true over (sym e ∙ f)
 
-pub may-not : (n : ℕ) (b : Bool) → b ≡ not (overCounter (n + 1)) → b ≡ false → overCounter (n + 1) ≡ true
-may-not n b e f = not-false _ (sym e ∙ f)
+pub past-limit : (b over : Bool) → b ≡ not over → b ≡ false → over ≡ true
+past-limit b over e f = not-false over (sym e ∙ f)
+
+-- a counter that may be added to
+pub may-add : (n : ℕ) (b : Bool) → b ≡ not (overCounter (n + 1)) → b ≡ true → n < 2 ^ 52
+may-add n b e f = omega (arith, ltb-false counterLimit (n + 1) (within-limit b (overCounter (n + 1)) e f))
 
 -- ---- the ways through new
 
@@ -136,15 +147,28 @@ module _ (c : MicroPriceConfig) (l : Previous) (k : Counters) (s m : List ℕ) (
       → countedAs c before q (eventFrom (neighboursOf c p q)) ≡ observed c before q
   way-next e p f h = rw (e, f, h)
 
-  -- a skip, its counter within its limit or not
-  pub way-skipped : (x : Skip) → overCounter (skipCount k x + 1) ≡ false
-      → ended Fine (record { previous = Quoted q; counters = addSkip k x }) s m t ≡ countedAs c before q (skip (kindOf x))
-  way-skipped Gap e = rw e
-  way-skipped Spread e = rw e
+  -- what the quotes were found to make is what they make
+  pub way-found : (p : TopOfBook) (n x : Neighbours) → n ≡ neighboursOf c p q → n ≡ x
+      → countedAs c before q (eventFrom x) ≡ countedAs c before q (eventFrom (neighboursOf c p q))
+  way-found p n x e f = ap (λ (z : Neighbours). countedAs c before q (eventFrom z)) (sym f ∙ e)
 
-  pub way-skip-limit : (x : Skip) → overCounter (skipCount k x + 1) ≡ true → ended (Refused (refusal 6)) held s m t ≡ countedAs c before q (skip (kindOf x))
-  way-skip-limit Gap e = rw e
-  way-skip-limit Spread e = rw e
+  -- a skip, its counter n within its limit or not
+  module _ (x : Skip) (n : ℕ) (n-is : n ≡ skipCount k x) (b : Bool) (b-is : b ≡ not (overCounter (n + 1))) where
+    pub way-skipped : b ≡ true → (k′ : Counters) → k′ ≡ addSkip k x → (d : Done) → d ≡ accepted k′ q
+        → ended (d .answer) (d .next) s m t ≡ countedAs c before q (skip (kindOf x))
+    way-skipped y k′ v d g = rw (g, v) (go x (rw n-is at (within-limit b (overCounter (n + 1)) b-is y)))
+      where
+        go : (x : Skip) → overCounter (skipCount k x + 1) ≡ false
+            → ended Fine (record { previous = Quoted q; counters = addSkip k x }) s m t ≡ countedAs c before q (skip (kindOf x))
+        go Gap e = rw e
+        go Spread e = rw e
+
+    pub way-skip-limit : b ≡ false → (d : Done) → d ≡ limited held → ended (d .answer) (d .next) s m t ≡ countedAs c before q (skip (kindOf x))
+    way-skip-limit y d g = rw g (go x (rw n-is at (past-limit b (overCounter (n + 1)) b-is y)))
+      where
+        go : (x : Skip) → overCounter (skipCount k x + 1) ≡ true → ended (Refused (refusal 6)) held s m t ≡ countedAs c before q (skip (kindOf x))
+        go Gap e = rw e
+        go Spread e = rw e
 
   -- a pair, what it touches within its limits or not
   module _ (p : Pair) (w : Countable c p) where
@@ -159,30 +183,32 @@ module _ (c : MicroPriceConfig) (l : Previous) (k : Counters) (s m : List ℕ) (
     limit-is x = rw (← w .from-at .mirrors, ← w .to-at .mirrors, x)
 
     -- the counter of pairs is full
-    pub way-full : (b : Bool) → b ≡ not (overCounter (k .pairs + 1)) → not b ≡ true → (d : Done) → d ≡ limited held
+    pub way-full : (a : Bool) → a ≡ not (overCounter (k .pairs + 1)) → not a ≡ true → (d : Done) → d ≡ limited held
         → ended (d .answer) (d .next) s m t ≡ countedAs c before q (eventFrom (Counted p))
-    way-full b x y d g = rw (g, limit-is (rw (may-not (k .pairs) b x (not-true b y))))
+    way-full a x y d g = rw (g, limit-is (rw (past-limit a (overCounter (k .pairs + 1)) x (not-true a y))))
 
-    module _ (n : ℕ) (n-is : n ≡ states c) (e′ : PairEntry) (e-is : e′ ≡ e) (b : Bool)
-        (b-is : b ≡ not (touchedOver n (forthOf e′) (backOf e′) (enterBoth n (forthOf e′) (backOf e′) (tables s m t)))) where
-      b-here : b ≡ not (touchedOver (states c) (forthOf e) (backOf e) after)
-      b-here = rw (n-is, e-is) at b-is
+    -- the number of states and the entry as the code has them
+    module _ (n : ℕ) (n-is : n ≡ states c) (e′ : PairEntry) (e-is : e′ ≡ e) where
+      abbrev entered : Tables
+      entered = enterBoth n (forthOf e′) (backOf e′) (tables s m t)
 
       -- a cell or a total would pass its limit
-      pub way-over : not b ≡ true → (d : Done) → d ≡ limited held → ended (d .answer) (d .next) s m t ≡ countedAs c before q (eventFrom (Counted p))
-      way-over y d g =
-          let f : touchedOver (states c) (forthOf e) (backOf e) after ≡ true = not-false _ (sym b-here ∙ not-true b y) in
+      pub way-over : (b : Bool) → b ≡ not (touchedOver n (forthOf e′) (backOf e′) entered) → not b ≡ true → (d : Done) → d ≡ limited held
+          → ended (d .answer) (d .next) s m t ≡ countedAs c before q (eventFrom (Counted p))
+      way-over b x y d g =
+          let f : touchedOver (states c) (forthOf e) (backOf e) after ≡ true = past-limit b _ (rw (n-is, e-is) at x) (not-true b y) in
           rw (g, limit-is (rw f (or-true (overCounter (k .pairs + 1)))))
 
       -- entered
-      pub way-entered : (a : Bool) → a ≡ not (overCounter (k .pairs + 1)) → not a ≡ false → not b ≡ false → (s′ m′ : List ℕ) (t′ : List ℤ)
-          → tables s′ m′ t′ ≡ enterBoth n (forthOf e′) (backOf e′) (tables s m t) → (k′ : Counters) → k′ ≡ addPair k e′ → (d : Done) → d ≡ accepted k′ q
+      pub way-entered : (a : Bool) → a ≡ not (overCounter (k .pairs + 1)) → not a ≡ false
+          → (b : Bool) → b ≡ not (touchedOver n (forthOf e′) (backOf e′) entered) → not b ≡ false
+          → (s′ m′ : List ℕ) (t′ : List ℤ) → tables s′ m′ t′ ≡ entered → (k′ : Counters) → k′ ≡ addPair k e′ → (d : Done) → d ≡ accepted k′ q
           → ended (d .answer) (d .next) s′ m′ t′ ≡ countedAs c before q (eventFrom (Counted p))
-      way-entered a x y z s′ m′ t′ u k′ v d g =
-          let f : touchedOver (states c) (forthOf e) (backOf e) after ≡ false = not-true _ (sym b-here ∙ not-false b z) in
+      way-entered a a-is y b b-is z s′ m′ t′ u k′ v d g =
+          let f : touchedOver (states c) (forthOf e) (backOf e) after ≡ false = within-limit b _ (rw (n-is, e-is) at b-is) (not-false b z) in
           let h : tables s′ m′ t′ ≡ after = rw (n-is, e-is) at u in
           let j : k′ ≡ addPair k e = rw e-is at v in
           rw g
           (ap (λ (T : Tables). record { answer = Fine; left = record { last = Quoted q; counts = countsOf k′ T } }) h
           ∙ ap (λ (K : Counters). record { answer = Fine; left = record { last = Quoted q; counts = countsOf K after } }) j
-          ∙ rw (← w .from-at .mirrors, ← w .to-at .mirrors, may (k .pairs) a x (not-false a y), f))
+          ∙ rw (← w .from-at .mirrors, ← w .to-at .mirrors, within-limit a (overCounter (k .pairs + 1)) a-is (not-false a y), f))

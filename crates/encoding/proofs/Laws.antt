@@ -16,6 +16,7 @@ use Rattle.calibrator.specs.declared.Previous.{Previous}
 use Rattle.calibrator.specs.declared.Previous.the-variants.{Nothing, Quoted}
 use Rattle.calibrator.specs.declared.Record.{Record}
 use Rattle.tally.specs.Entries.{Tables, tables}
+use Rattle.tally.specs.Rules.{Memory}
 use Rattle.layout.specs.Layout.{previousWords, recordWords}
 use Rattle.layout.proofs.Headers.{same-equal}
 use Rattle.encoding.specs.Encoding.{isConfig, configWords, configOf, wordsOf, previousOf, countersOf, recordOf, isRecord, areZero, encoded}
@@ -132,3 +133,10 @@ encoded-by c w b judged holds =
     let e : encoded c w ≡ true = sym judged ∙ holds in
     let k = encoded-known c w e in
     record { is = e; config = k .0; rec = k .1; ten = record-long w (k .1) }
+
+-- an operation on the record and the configuration that encoded words tell: what is left of it, x, is what the exported operation says
+module _ (c w s m : List ℕ) (t : List ℤ) (k : Encoded c w) {r : Record} (told : r ≡ recordOf w) {d : MicroPriceConfig} (decoded : d ≡ configOf c) where
+  pub operation-words : {O X : Type 0} (f : MicroPriceConfig → Memory Previous → O) (out : O → X) {o : O} → o ≡ f d (memory r s m t) → {x : X} → x ≡ out o
+      → (other : X) → x ≡ cond (encoded c w) (out (f (configOf c) (memory (recordOf w) s m t))) other
+  operation-words f out done left other =
+      left ∙ ap out (done ∙ (λ j. f (decoded j) (memory (told j) s m t))) ∙ chosen other (k .is)

@@ -2,7 +2,7 @@
 use Prim.Native.Nat.{ℕ}
 use mathlib.Core.Path.{_≡_, refl, _∙_, ap, transport}
 use mathlib.Core.Bool.{Bool, true, false, cond}
-use mathlib.Core.List.{List, []}
+use mathlib.Core.List.{List}
 use lib.Ieee.{Float}
 use lib.IntN.{ℤ}
 use lib.ListN.{length}
@@ -13,28 +13,26 @@ use Rattle.calibrator.specs.declared.Record.{Record}
 use Rattle.history.specs.Calls.{run}
 use Rattle.replay.specs.Replay.{site, wellCoded, callsFrom, Replay, replay, replayRun, Promised}
 use Rattle.replay.specs.declared.Replayed.the-variants.{Done, BadEncoding}
-use Rattle.evening.specs.Evening.{endEvening, calibrated}
-use Rattle.evening.specs.declared.Evening.{Evening}
+use Rattle.evening.specs.Evening.{EveningOutcome, calibrated}
 use Rattle.encoding.specs.Encoding.{configOf, wordsOf, recordOf, isRecord, encoded, badEncoding, lent}
-use Rattle.encoding.proofs.Laws.{words-back, encoded-known, chosen}
+use Rattle.encoding.proofs.Laws.{words-back, encoded-known, chosen, Encoded, operation-words}
 use Rattle.exports_batch.specs.Batch.{lentEvening, eveningNumber, invalidAfter, ofEvening, calibrateWords, lentReplay, replayedNumber, ofReplay, replayWords, PromisedWords}
 
 -- ---- the evening
 
-module _ (c : List ℕ) (d : MicroPriceConfig) (decoded : d ≡ configOf c) (w : List ℕ) (r : Record) (told : r ≡ recordOf w) (e : encoded c w ≡ true)
-    (s m : List ℕ) (t : List ℤ) (model : List ℕ) (scratch : List Float) where
-  module _ (recording : List ℕ) (start end invalid : ℕ) (n : ℕ) (answer : Evening) (next : Record) (words stay moved : List ℕ) (totals : List ℤ)
-      (after : List ℕ) (zeroed : List Float) (counted : ℕ) where
-    pub evening-words :
-        n ≡ eveningNumber answer →
-        words ≡ wordsOf (memory next [] [] []) →
-        counted ≡ invalidAfter answer invalid →
-        endEvening answer (memory next stay moved totals) after zeroed ≡ calibrated d (memory r s m t) recording start end model scratch →
-        lentEvening n words stay moved totals after zeroed counted ≡ calibrateWords c w s m t recording start end model scratch invalid
-    evening-words numbered put-back written found =
-        (λ j. lentEvening (numbered j) (put-back j) stay moved totals after zeroed (written j))
-        ∙ ap (λ o. ofEvening o invalid) (found ∙ (λ j. calibrated (decoded j) (memory (told j) s m t) recording start end model scratch))
-        ∙ chosen (lentEvening badEncoding w s m t model scratch invalid) e
+-- words that are encoded, with the record and the configuration of them
+module _ (c w s m : List ℕ) (t : List ℤ) (k : Encoded c w) {r : Record} (told : r ≡ recordOf w) {d : MicroPriceConfig} (decoded : d ≡ configOf c) where
+  pub evening-words : (recording : List ℕ) (start end : ℕ) (model : List ℕ) (scratch : List Float) (invalid : ℕ)
+      {o : EveningOutcome} → o ≡ calibrated d (memory r s m t) recording start end model scratch
+      → {w′ : List ℕ} → w′ ≡ wordsOf (o .left)
+      → {n invalid′ : ℕ} → (n ≡ eveningNumber (o .answer)) × (invalid′ ≡ invalidAfter (o .answer) invalid)
+      → lentEvening n w′ (o .left .counts .tables .stay) (o .left .counts .tables .moved) (o .left .counts .tables .totals) (o .model) (o .scratch) invalid′
+      ≡ calibrateWords c w s m t recording start end model scratch invalid
+  evening-words recording start end model scratch invalid {o} done written put =
+      operation-words c w s m t k told decoded (λ d m. calibrated d m recording start end model scratch) (λ o. ofEvening o invalid) done
+      (λ j. lentEvening (put .0 j) (written j) (o .left .counts .tables .stay) (o .left .counts .tables .moved) (o .left .counts .tables .totals) (o .model)
+      (o .scratch) (put .1 j))
+      (lentEvening badEncoding w s m t model scratch invalid)
 
 -- ---- the replay
 
@@ -45,13 +43,13 @@ replay-refused c w s m t calls room numbers e =
     record { run-is = rw e; history-is = λ h own. absurd (zero-not-one cc) }
 
 -- words that are encoded, with the record and the configuration of them
-module _ (c w s m : List ℕ) (t : List ℤ) (e : encoded c w ≡ true) (r : Record) (told : r ≡ recordOf w) (d : MicroPriceConfig) (decoded : d ≡ configOf c) where
-  pub replay-words : (calls room numbers : List ℕ) (x : Replay) → Promised d (site r s m t room) calls numbers x → (n : ℕ) → n ≡ replayedNumber (x .answer)
-      → (w′ : List ℕ) → w′ ≡ wordsOf (x .after .memory)
+module _ (c w s m : List ℕ) (t : List ℤ) (k : Encoded c w) {r : Record} (told : r ≡ recordOf w) {d : MicroPriceConfig} (decoded : d ≡ configOf c) where
+  pub replay-words : (calls room numbers : List ℕ) (x : Replay) → Promised d (site r s m t room) calls numbers x
+      → {w′ : List ℕ} → w′ ≡ wordsOf (x .after .memory) → {n : ℕ} → n ≡ replayedNumber (x .answer)
       → PromisedWords c w s m t calls room numbers
       (lentReplay (x .numbers) (x .after .room)
       (lent n w′ (x .after .memory .counts .tables .stay) (x .after .memory .counts .tables .moved) (x .after .memory .counts .tables .totals)))
-  replay-words calls room numbers x promised n number w′ written =
+  replay-words calls room numbers x promised written number =
       let p : Promised (configOf c) (site (recordOf w) s m t room) calls numbers x =
       transport (λ j. Promised (decoded j) (site (told j) s m t room) calls numbers x) promised in
       let same : _ ≡ ofReplay x =
@@ -59,7 +57,7 @@ module _ (c w s m : List ℕ) (t : List ℤ) (e : encoded c w ≡ true) (r : Rec
       (lent (number j) (written j) (x .after .memory .counts .tables .stay) (x .after .memory .counts .tables .moved)
       (x .after .memory .counts .tables .totals))) in
       record {
-        run-is = same ∙ ap ofReplay (p .run-is) ∙ chosen _ e;
+        run-is = same ∙ ap ofReplay (p .run-is) ∙ chosen _ (k .is);
         history-is = λ _ own. same ∙ ap ofReplay (p .history-is own);
       }
 

@@ -1,33 +1,43 @@
 -- From what the functions called answer to what an exported operation leaves.
 use Prim.Native.Nat.{ℕ}
-use mathlib.Core.Path.{_≡_, _∙_, ap}
-use mathlib.Core.Bool.{true}
+use mathlib.Core.Path.{_≡_, refl, sym, _∙_, ap}
 use mathlib.Core.List.{List}
 use lib.IntN.{ℤ}
-use Rattle.refusals.specs.Refusals.{checkNumber}
+use Rattle.refusals.specs.Refusals.{numberOf, checkNumber}
+use Rattle.refusals.specs.declared.Refusal.{Refusal}
 use Rattle.config.specs.declared.MicroPriceConfig.{MicroPriceConfig}
 use Rattle.calibrator.specs.Record.{memory}
 use Rattle.calibrator.specs.declared.Record.{Record}
 use Rattle.image.specs.Image.{Saved, saved, Taken, restored}
-use Rattle.encoding.specs.Encoding.{configOf, wordsOf, recordOf, encoded, lent}
-use Rattle.encoding.proofs.Laws.{chosen}
+use Rattle.image.specs.declared.Restored.the-variants.{Config, Refused}
+use Rattle.encoding.specs.Encoding.{configWords, configOf, wordsOf, recordOf, badEncoding, lent}
+use Rattle.encoding.proofs.Laws.{Encoded, operation-words}
 use Rattle.exports_image.specs.Images.{lentOut, ofSaved, saveWords, lentBack, restoredNumber, configAfter, ofTaken, restoreWords}
 
 -- words that are encoded, with the record of them
-module _ (c w s m : List ℕ) (t : List ℤ) (e : encoded c w ≡ true) (r : Record) (told : r ≡ recordOf w) where
-  pub restore-words : (b : List ℕ) (k : Taken) → k ≡ restored b (memory r s m t) → (n : ℕ) → n ≡ restoredNumber (k .answer) → (c′ : List ℕ)
-      → c′ ≡ configAfter (k .answer) c → (w′ : List ℕ) → w′ ≡ wordsOf (k .left)
-      → lentBack c′ (lent n w′ (k .left .counts .tables .stay) (k .left .counts .tables .moved) (k .left .counts .tables .totals)) ≡ restoreWords b c w s m t
-  restore-words b k done n number c′ set w′ written =
-      (λ j. lentBack (set j) (lent (number j) (written j) (k .left .counts .tables .stay) (k .left .counts .tables .moved) (k .left .counts .tables .totals)))
-      ∙ ap (λ k. ofTaken k c) (done ∙ (λ j. restored b (memory (told j) s m t)))
-      ∙ chosen _ e
+module _ (c w s m : List ℕ) (t : List ℤ) (k : Encoded c w) {r : Record} (told : r ≡ recordOf w) where
+  -- an image restored, with the record that is written back
+  module _ (b : List ℕ) {o : Taken} (done : o ≡ restored b (memory r s m t)) {w′ : List ℕ} (written : w′ ≡ wordsOf (o .left)) where
+    back : {c′ : List ℕ} → c′ ≡ configAfter (o .answer) c → {n : ℕ} → n ≡ restoredNumber (o .answer)
+        → lentBack c′ (lent n w′ (o .left .counts .tables .stay) (o .left .counts .tables .moved) (o .left .counts .tables .totals)) ≡ restoreWords b c w s m t
+    back put number =
+        operation-words c w s m t k told refl (λ _ m. restored b m) (λ o. ofTaken o c) done
+        (λ j. lentBack (put j)
+        (lent (number j) (written j) (o .left .counts .tables .stay) (o .left .counts .tables .moved) (o .left .counts .tables .totals)))
+        (lentBack c (lent badEncoding w s m t))
+
+    -- a configuration is answered: its words are written
+    pub restore-taken : {d : MicroPriceConfig} → o .answer ≡ Config d → {c′ : List ℕ} → c′ ≡ configWords d
+        → lentBack c′ (lent 0 w′ (o .left .counts .tables .stay) (o .left .counts .tables .moved) (o .left .counts .tables .totals)) ≡ restoreWords b c w s m t
+    restore-taken answered put = back (put ∙ sym (ap (λ x. configAfter x c) answered)) (sym (ap restoredNumber answered))
+
+    pub restore-refused : {x : Refusal} → o .answer ≡ Refused x → {n : ℕ} → n ≡ numberOf x
+        → lentBack c (lent n w′ (o .left .counts .tables .stay) (o .left .counts .tables .moved) (o .left .counts .tables .totals)) ≡ restoreWords b c w s m t
+    restore-refused answered number = back (sym (ap (λ x. configAfter x c) answered)) (number ∙ sym (ap restoredNumber answered))
 
   -- and the configuration of them
-  module _ (d : MicroPriceConfig) (decoded : d ≡ configOf c) where
-    pub save-words : (out : List ℕ) (k : Saved) → k ≡ saved d (memory r s m t) out → (n : ℕ) → n ≡ checkNumber (k .answer)
-        → lentOut n (k .output) ≡ saveWords c w s m t out
-    save-words out k done n number =
-        ap (λ n. lentOut n (k .output)) number
-        ∙ ap ofSaved (done ∙ (λ j. saved (decoded j) (memory (told j) s m t) out))
-        ∙ chosen _ e
+  pub save-words : {d : MicroPriceConfig} → d ≡ configOf c → (out : List ℕ) {o : Saved} → o ≡ saved d (memory r s m t) out
+      → {n : ℕ} → n ≡ checkNumber (o .answer)
+      → lentOut n (o .output) ≡ saveWords c w s m t out
+  save-words decoded out {o} done number =
+      operation-words c w s m t k told decoded (λ d m. saved d m out) ofSaved done (ap (λ n. lentOut n (o .output)) number) (lentOut badEncoding out)

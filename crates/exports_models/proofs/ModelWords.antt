@@ -1,20 +1,26 @@
 -- From what the functions called answer to what an exported operation leaves.
 use Prim.Native.Nat.{ℕ}
-use mathlib.Core.Path.{_≡_, refl, _∙_, ap, subst}
-use mathlib.Core.Bool.{true, _&&_}
+use mathlib.Core.Path.{_≡_, refl, sym, _∙_, ap, subst}
+use mathlib.Core.Bool.{_&&_}
 use mathlib.Core.List.{List, [], _∷_}
 use lib.Dec.{eqb}
 use lib.ListN.{length, set}
+use borrow.Author.Tests.{eq-eqb}
 use Rattle.basics.proofs.Lists.{tab-getD}
+use Rattle.refusals.specs.Refusals.{numberOf, rowOr}
 use Rattle.refusals.specs.declared.Check.{Check}
+use Rattle.refusals.specs.declared.Check.the-variants as Check
+use Rattle.refusals.specs.declared.Refusal.{Refusal}
 use Rattle.config.specs.declared.MicroPriceConfig.{MicroPriceConfig}
 use Rattle.quotes.specs.declared.TopOfBook.{TopOfBook}
-use Rattle.encoding.specs.Encoding.{isConfig, configOf, badEncoding}
+use Rattle.encoding.specs.Encoding.{configOf, badEncoding}
 use Rattle.encoding.proofs.Laws.{chosen}
 use Rattle.model_check.specs.Check.{checkModel}
 use Rattle.signals.specs.Signal.{signalOf}
+use Rattle.signals.specs.declared.MicroPriceSignal.{MicroPriceSignal}
 use Rattle.signals.specs.declared.Signalled.{Signalled}
-use Rattle.exports_models.specs.Models.{lentRow, ofCheck, checkModelWords, lentSignal, ofSignalled, signalWords}
+use Rattle.signals.specs.declared.Signalled.the-variants as Signalled
+use Rattle.exports_models.specs.Models.{lentRow, ofCheck, checkModelWords, lentSignal, fourWords, ofSignalled, signalWords}
 
 -- ---- the leaves
 
@@ -22,15 +28,32 @@ pub four-put : (w : List ℕ) → length w ≡ 4 → (a b d e : ℕ) → set (se
 four-put w long a b d e =
     subst (λ (x : List ℕ). set (set (set (set x 0 a) 1 b) 2 d) 3 e ≡ a ∷ b ∷ d ∷ e ∷ []) (tab-getD w 4 0 long) refl
 
--- ---- the operations, on words that are encoded
+-- ---- the operations, on five words and the configuration of them
 
-module _ (c : List ℕ) (d : MicroPriceConfig) (decoded : d ≡ configOf c) where
-  pub check-words : (model : List ℕ) (row : ℕ) (k : Check) → isConfig c ≡ true → k ≡ checkModel d model → ofCheck k row ≡ checkModelWords c model row
-  check-words model row k e found =
-      ap (λ k. ofCheck k row) (found ∙ ap (λ d. checkModel d model) decoded) ∙ chosen (lentRow badEncoding row) e
+module _ (c model : List ℕ) (row : ℕ) (five : length c ≡ 5) {d : MicroPriceConfig} (decoded : d ≡ configOf c) {k : Check} (found : k ≡ checkModel d model) where
+  checked : (x : Check) → k ≡ x → ofCheck x row ≡ checkModelWords c model row
+  checked x is =
+      ap (λ k. ofCheck k row) (sym is ∙ found ∙ ap (λ d. checkModel d model) decoded) ∙ chosen (lentRow badEncoding row) (eq-eqb (length c) 5 five)
 
-  pub signal-words : (model : List ℕ) (q : TopOfBook) (out : List ℕ) (row : ℕ) (s : Signalled) → isConfig c ≡ true → eqb (length out) 4 ≡ true
-      → s ≡ signalOf d model q → ofSignalled s out row ≡ signalWords c model q out row
-  signal-words model q out row s e f found =
-      ap (λ s. ofSignalled s out row) (found ∙ ap (λ d. signalOf d model q) decoded)
-      ∙ chosen (lentSignal badEncoding out row) (ap (λ b. b && eqb (length out) 4) e ∙ f)
+  pub check-words-fine : k ≡ Check.Fine → lentRow 0 row ≡ checkModelWords c model row
+  check-words-fine fine = checked Check.Fine fine
+
+  pub check-words-refused : {x : Refusal} → k ≡ Check.Refused x → {n row′ : ℕ} → (n ≡ numberOf x) × (row′ ≡ rowOr x row)
+      → lentRow n row′ ≡ checkModelWords c model row
+  check-words-refused {x} refused put = (λ j. lentRow (put .0 j) (put .1 j)) ∙ checked (Check.Refused x) refused
+
+-- and on four words for the signal
+module _ (c model out : List ℕ) (row : ℕ) (five : length c ≡ 5) (four : length out ≡ 4) {d : MicroPriceConfig} (decoded : d ≡ configOf c) (q : TopOfBook)
+    {k : Signalled} (found : k ≡ signalOf d model q) where
+  signalled : (x : Signalled) → k ≡ x → ofSignalled x out row ≡ signalWords c model q out row
+  signalled x is =
+      ap (λ k. ofSignalled k out row) (sym is ∙ found ∙ ap (λ d. signalOf d model q) decoded)
+      ∙ chosen (lentSignal badEncoding out row) (ap (λ b. b && eqb (length out) 4) (eq-eqb (length c) 5 five) ∙ eq-eqb (length out) 4 four)
+
+  pub signal-words-sent : {s : MicroPriceSignal} → k ≡ Signalled.Sent s → {out′ : List ℕ} → out′ ≡ fourWords s
+      → lentSignal 0 out′ row ≡ signalWords c model q out row
+  signal-words-sent {s} sent put = ap (λ l. lentSignal 0 l row) put ∙ signalled (Signalled.Sent s) sent
+
+  pub signal-words-refused : {x : Refusal} → k ≡ Signalled.Refused x → {n row′ : ℕ} → (n ≡ numberOf x) × (row′ ≡ rowOr x row)
+      → lentSignal n out row′ ≡ signalWords c model q out row
+  signal-words-refused {x} refused put = (λ j. lentSignal (put .0 j) out (put .1 j)) ∙ signalled (Signalled.Refused x) refused

@@ -111,9 +111,9 @@ module _ (rounds moves : ℕ) (G : Given) (t : List ℕ) where
     unfolding fitOf
     goes = rw u
 
-    pub ends-unsolved : (r : Refusal) → Refused r ≡ checkOf (solutionOf rounds moves (G .cells) (G .total))
-        → FitEnds (G .cells .states) (fitOf rounds moves G) t (Refused r) t
-    ends-unsolved r e = rw goes (go (solutionOf rounds moves (G .cells) (G .total)) e)
+    pub ends-unsolved : {k : Check} {r : Refusal} → k ≡ checkOf (solutionOf rounds moves (G .cells) (G .total)) → k ≡ Refused r
+        → FitEnds (G .cells .states) (fitOf rounds moves G) t k t
+    ends-unsolved {k} {r} is told = rw (told, goes) (go (solutionOf rounds moves (G .cells) (G .total)) (sym told ∙ is))
       where
         go : (s : Solution) → Refused r ≡ checkOf s → FitEnds (G .cells .states) (fitFrom G s) t (Refused r) t
         go (solution a b d) e = absurd (zero-not-one cc)
@@ -149,19 +149,19 @@ module _ (rounds moves : ℕ) (G : Given) (t : List ℕ) where
                     });
               }
 
-      pub ends-refused : (r : Refusal) → Refused r ≡ answerOf (judgedRows (G .cells .states) (rowsIn (G .cells .states) G l))
-          → FitEnds (G .cells .states) (fitOf rounds moves G) t (Refused r) t
-      ends-refused r e =
+      pub ends-refused : {k : Check} {r : Refusal} → k ≡ answerOf (judgedRows (G .cells .states) (rowsIn (G .cells .states) G l)) → k ≡ Refused r
+          → FitEnds (G .cells .states) (fitOf rounds moves G) t k t
+      ends-refused {k} {r} is told =
           let R = solved-rows in
-          let a : Refused r ≡ answerOf (fitOf rounds moves G) = e ∙ judged-same (G .cells .states) _ (R .rows) (R .same) ∙ ap answerOf (sym (R .fit-is)) in
-          record { answers = a; models = table-left (G .cells .states) (fitOf rounds moves G) r t a }
+          let a : k ≡ answerOf (fitOf rounds moves G) = is ∙ judged-same (G .cells .states) _ (R .rows) (R .same) ∙ ap answerOf (sym (R .fit-is)) in
+          record { answers = a; models = table-left (G .cells .states) (fitOf rounds moves G) r t (sym told ∙ a) }
 
-      pub ends-fitted : (m : List ℕ) → Fine ≡ answerOf (judgedRows (G .cells .states) (rowsIn (G .cells .states) G l))
+      pub ends-fitted : {k : Check} {m : List ℕ} → k ≡ answerOf (judgedRows (G .cells .states) (rowsIn (G .cells .states) G l)) → k ≡ Fine
           → m ≡ tableOf (G .cells .states) (rowsIn (G .cells .states) G l) → FitEnds (G .cells .states) (fitOf rounds moves G) t Fine m
-      ends-fitted m e w =
+      ends-fitted {k} {m} is told w =
           let R = solved-rows in
           let f : fitOf rounds moves G ≡ fitted (R .rows) =
-          R .fit-is ∙ judged-passed (G .cells .states) (R .rows) (e ∙ judged-same (G .cells .states) _ (R .rows) (R .same)) in
+          R .fit-is ∙ judged-passed (G .cells .states) (R .rows) (sym told ∙ is ∙ judged-same (G .cells .states) _ (R .rows) (R .same)) in
           rw f (record { answers = refl; models = w ∙ table-same (G .cells .states) _ (R .rows) (R .same) })
 
 -- ---- another mirror that agrees below N

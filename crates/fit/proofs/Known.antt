@@ -15,7 +15,8 @@ use Rattle.basics.proofs.Tests.{both, neither}
 use Rattle.basics.proofs.Anys.{none-at}
 use Rattle.refusals.specs.Refusals.{refuseIf, firstOf, firstFrom}
 use Rattle.refusals.specs.declared.Check.{Check}
-use Rattle.refusals.specs.declared.Check.the-variants.{Fine}
+use Rattle.refusals.specs.declared.Check.the-variants.{Fine, Refused}
+use Rattle.refusals.specs.declared.Refusal.{Refusal}
 use Rattle.refusals.proofs.Refusals.{if-fine, first-fine, from-fine}
 use Rattle.config.specs.Configuration.{states}
 use Rattle.config.specs.Known.{Valid}
@@ -156,6 +157,13 @@ pub scratch-of : {c : MicroPriceConfig} {m : Memory Previous} {model : ℕ} → 
 scratch-of l f = record { few = f .conf .states-most; room = omega (arith, f .scratch-long) }
 
 -- ---- the whole
+
+-- what is refused before the fit changes nothing
+pub whole-refused : (rounds moves : ℕ) (c : MicroPriceConfig) (m : Memory Previous) (model : List ℕ) (scratch : List Float) {k : Check} {r : Refusal}
+    → k ≡ fitRefusal c m (length scratch) (length model) → k ≡ Refused r → endFit k model scratch ≡ fittedWith rounds moves c m model scratch
+whole-refused rounds moves c m model scratch is told =
+    (λ j. endFit (told j) model scratch)
+    ∙ sym (ap (λ k. fitUnless k (states c) (fitOf rounds moves (givenOf c (m .counts))) model scratch) (sym is ∙ told))
 
 pub whole : (rounds moves : ℕ) (c : MicroPriceConfig) (m : Memory Previous) (model after : List ℕ) (scratch left : List Float) (r : Check) (n : ℕ) (ms : List ℕ)
     → n ≡ states c

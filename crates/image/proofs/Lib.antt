@@ -1,3 +1,4 @@
 pub mod Judged
 pub mod Ways
 pub mod Round
+pub mod Written

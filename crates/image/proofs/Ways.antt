@@ -1,12 +1,13 @@
--- The ways through the judgement of an image and through its reading.
-use Prim.Native.Nat.{ℕ, _+_, _*_}
+-- The ways through the judgement of an image and through its reading: each law takes what code has found on that way, in its order.
+use Prim.Native.Nat.{ℕ, _+_, _*_, _≤_, _<_}
 use mathlib.Core.Path.{_≡_, sym, ap, _∙_}
-use mathlib.Core.Bool.{true, false}
+use mathlib.Core.Bool.{Bool, true, false, not}
 use mathlib.Core.List.{List, map}
 use native.Mathlib.Omega.{arith}
 use lib.IntN.{ℤ}
 use lib.ListN.{length, drop}
 use lib.Seq.{drop-drop}
+use borrow.Author.Tests.{lt-ltb, le-ltb, not-true, not-false}
 use Rattle.words.specs.Words.{wordsOf, untwos}
 use Rattle.refusals.specs.Refusals.{refuseIf, firstOf, refusal}
 use Rattle.refusals.specs.declared.Check.{Check}
@@ -22,49 +23,67 @@ use Rattle.calibrator.specs.declared.Previous.{Previous}
 use Rattle.calibrator.specs.declared.Record.{Record}
 use Rattle.mirrored.specs.Mirrors.{checkMirrored}
 use Rattle.layout.specs.Layout.{headerLength, cells, configIn, recordIn, tablesFrom, memoryIn, laidOut}
-use Rattle.image.specs.Image.{tooShort, lentWrong, heldRefusal, restoreRefusal, endRestore, restored, Readable}
+use Rattle.image.specs.Image.{lentWrong, heldRefusal, restoreRefusal, endRestore, restored, Readable}
 use Rattle.image.specs.declared.Restored.the-variants.{Config}
 
+-- ---- the judgement of an image, by what code finds of it in turn: its length, c of its header, v whether c is valid, l whether it is laid out
 module _ (b : List ℕ) (t : Tables) where
-  pub way-short : tooShort b ≡ true → Refused (refusal 12) ≡ restoreRefusal b t
-  way-short e = rw e
+  pub way-short : length b < headerLength → Refused (refusal 12) ≡ restoreRefusal b t
+  way-short h = rw (lt-ltb _ _ h)
 
-  module _ (long : tooShort b ≡ false) where
-    pub way-invalid : valid (configIn b) ≡ false → Refused (refusal 1) ≡ restoreRefusal b t
-    way-invalid e = rw (long, e)
+  module _ {c : MicroPriceConfig} {v : Bool} (long : headerLength ≤ length b) (ec : c ≡ configIn b) (ev : v ≡ valid c) where
+    validity : valid (configIn b) ≡ v
+    validity = ap valid (sym ec) ∙ sym ev
 
-    pub way-layout : valid (configIn b) ≡ true → laidOut b ≡ false → Refused (refusal 12) ≡ restoreRefusal b t
-    way-layout e f = rw (long, e, f)
+    pub way-invalid : not v ≡ true → Refused (refusal 1) ≡ restoreRefusal b t
+    way-invalid e = rw (le-ltb _ _ long, validity, not-true v e)
 
-    pub way-held : valid (configIn b) ≡ true → laidOut b ≡ true → heldRefusal b t ≡ restoreRefusal b t
-    way-held e f = rw (long, e, f)
+    module _ {l : Bool} (is : not v ≡ false) (el : l ≡ laidOut b) where
+      pub way-layout : not l ≡ true → Refused (refusal 12) ≡ restoreRefusal b t
+      way-layout e = rw (le-ltb _ _ long, validity, not-false v is, ← el, not-true l e)
 
--- the judgement of what is held, of a configuration, a last quote and counts
+      pub way-held : {k : Check} → not l ≡ false → k ≡ heldRefusal b t → k ≡ restoreRefusal b t
+      way-held e h = h ∙ rw (le-ltb _ _ long, validity, not-false v is, ← el, not-false l e)
+
+-- ---- the judgement of what it holds
+
+-- of a configuration, a last quote and counts
 abbrev pub heldWith : MicroPriceConfig → Previous → Counts → Tables → Check
 heldWith c l k t =
     firstOf (refuseIf (lentWrong (states c) t) 7) (firstOf (refuseIf (broken c l) 8) (checkMirrored c k))
 
-module _ (c : MicroPriceConfig) (l : Previous) (k : Counts) (t : Tables) where
-  pub held-seven : lentWrong (states c) t ≡ true → Refused (refusal 7) ≡ heldWith c l k t
-  held-seven e = rw e
+-- c and r are what the image tells, n the states, w whether the lent lengths are wrong for them, k whether the last quote is broken
+module _ (b : List ℕ) (t : Tables) (c : MicroPriceConfig) (r : Record) {n : ℕ} {w : Bool} (ec : c ≡ configIn b) (er : r ≡ recordIn b) (en : n ≡ states c)
+    (ew : w ≡ lentWrong n t) where
+  abbrev held : Tables → Check
+  held T = heldWith c (r .previous) (countsOf (r .counters) T) t
 
-  pub held-eight : lentWrong (states c) t ≡ false → broken c l ≡ true → Refused (refusal 8) ≡ heldWith c l k t
-  held-eight e f = rw (e, f)
+  abbrev there : Tables
+  there = tablesFrom (states c) (drop headerLength b)
 
-  pub held-checked : lentWrong (states c) t ≡ false → broken c l ≡ false → checkMirrored c k ≡ heldWith c l k t
-  held-checked e f = rw (e, f)
+  held-is : held there ≡ heldRefusal b t
+  held-is = rw (ec, er)
 
--- of what an image tells
-pub held-is : (b : List ℕ) (t : Tables) (c : MicroPriceConfig) (r : Record) → c ≡ configIn b → r ≡ recordIn b
-    → heldWith c (r .previous) (countsOf (r .counters) (tablesFrom (states c) (drop headerLength b))) t ≡ heldRefusal b t
-held-is b t c r ec er =
-    λ i. heldWith (ec i) (er i .previous) (countsOf (er i .counters) (tablesFrom (states (ec i)) (drop headerLength b))) t
+  lengths : lentWrong (states c) t ≡ w
+  lengths = sym (ew ∙ ap (λ (k : ℕ). lentWrong k t) en)
+
+  pub held-seven : w ≡ true → Refused (refusal 7) ≡ heldRefusal b t
+  held-seven e = (let g : Refused (refusal 7) ≡ held there = rw (lengths, e) in g) ∙ held-is
+
+  module _ {k : Bool} (right : w ≡ false) (ek : k ≡ broken c (r .previous)) where
+    pub held-eight : k ≡ true → Refused (refusal 8) ≡ heldRefusal b t
+    held-eight e = (let g : Refused (refusal 8) ≡ held there = rw (lengths, right, ← ek, e) in g) ∙ held-is
+
+    pub held-checked : {T : Tables} {x : Check} → k ≡ false → T ≡ there → x ≡ checkMirrored c (countsOf (r .counters) T)
+        → x ≡ heldRefusal b t
+    held-checked {T = T} e eT ex =
+        ex ∙ (let g : checkMirrored c (countsOf (r .counters) T) ≡ held T = rw (lengths, right, ← ek, e) in g) ∙ ap held eT ∙ held-is
 
 -- the three reads
-pub read-is : (b s m s′ m′ : List ℕ) (t t′ : List ℤ) (C : ℕ) → Readable b (length s) (length m) (length t) → C ≡ length s
+pub read-is : (b s m : List ℕ) (t : List ℤ) {C : ℕ} {s′ m′ : List ℕ} {t′ : List ℤ} → Readable b (length s) (length m) (length t) → C ≡ length s
     → s′ ≡ wordsOf (length s) (drop 160 b) → m′ ≡ wordsOf (length m) (drop (160 + 8 * C) b) → t′ ≡ map untwos (wordsOf (length t) (drop (160 + 16 * C) b))
     → tables s′ m′ t′ ≡ memoryIn b .counts .tables
-read-is b s m s′ m′ t t′ C r ec es em et =
+read-is b s m t {C = C} r ec es em et =
     let D = cells (configIn b) in
     let dm : drop (160 + 8 * C) b ≡ drop (8 * D) (drop 160 b) =
     sym (drop-drop (8 * D) 160 b ∙ ap (λ (j : ℕ). drop j b) (let z : 160 + 8 * D ≡ 160 + 8 * C = omega (arith, r .stay-cells) in z)) in
@@ -80,8 +99,9 @@ read-is b s m s′ m′ t t′ C r ec es em et =
     }
 
 -- restored
-pub way-restored : (b : List ℕ) (m : Memory Previous) → restoreRefusal b (m .counts .tables) ≡ Fine → (c : MicroPriceConfig) → c ≡ configIn b → (r : Record)
-    → r ≡ recordIn b → (s′ m′ : List ℕ) (t′ : List ℤ) → tables s′ m′ t′ ≡ memoryIn b .counts .tables → endRestore (Config c) (memory r s′ m′ t′) ≡ restored b m
-way-restored b m e c ec r er s′ m′ t′ et =
+pub way-restored : (b : List ℕ) (m : Memory Previous) {c : MicroPriceConfig} {r : Record} {s′ m′ : List ℕ} {t′ : List ℤ}
+    → restoreRefusal b (m .counts .tables) ≡ Fine → c ≡ configIn b → r ≡ recordIn b → tables s′ m′ t′ ≡ memoryIn b .counts .tables
+    → endRestore (Config c) (memory r s′ m′ t′) ≡ restored b m
+way-restored b m e ec er et =
     (λ i. endRestore (Config (ec i)) (record { last = er i .previous; counts = countsOf (er i .counters) (et i) }))
     ∙ (let g : endRestore (Config (configIn b)) (memoryIn b) ≡ restored b m = rw e in g)

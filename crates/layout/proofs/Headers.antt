@@ -1,13 +1,13 @@
 -- Two lists of words compared from the first one on.
 use Prim.Native.Nat.{ℕ, suc, _+_, _-_, _*_, _<_, _≤_}
 use mathlib.Core.Path.{_≡_, refl, ap, _∙_}
-use mathlib.Core.Bool.{Bool, true, _&&_}
+use mathlib.Core.Bool.{Bool, true, false, _&&_}
 use mathlib.Core.List.{List, [], _∷_}
 use native.Mathlib.Omega.{arith}
 use lib.Dec.{eqb}
 use lib.ListN.{length, getD, drop, drop-of-length-le}
 use lib.Seq.{drop-cons, drop-drop}
-use borrow.Author.Tests.{eqb-true}
+use borrow.Author.Tests.{eqb-true, eq-eqb, ne-eqb}
 use Rattle.basics.proofs.Tests.{zero-not-one, both}
 use Rattle.words.specs.Words.{wordsOf, wordAt}
 use Rattle.config.specs.declared.MicroPriceConfig.{MicroPriceConfig}
@@ -30,6 +30,15 @@ same-step b h i l e =
     let w : drop 8 (drop (8 * i) b) ≡ drop (8 * (i + 1)) b =
     drop-drop 8 (8 * i) b ∙ ap (λ (j : ℕ). drop j b) (let s : 8 * i + 8 ≡ 8 * (i + 1) = omega arith in s) in
     rw (n, d, w)
+
+-- a turn of the walk: the word w that is read at i differs from the one in h, or is that one
+module _ (b h : List ℕ) (i : ℕ) {w : ℕ} (l : i < 20) (e : length h ≡ 20) (ew : w ≡ wordAt b (8 * i)) where
+  pub same-differs : (w ≡ getD h i 0 → ⊥) → sameWords (wordsOf (20 - i) (drop (8 * i) b)) (drop i h) ≡ false
+  same-differs n = same-step b h i l e ∙ rw (← ew, ne-eqb w (getD h i 0) n)
+
+  pub same-agrees : w ≡ getD h i 0
+      → sameWords (wordsOf (20 - i) (drop (8 * i) b)) (drop i h) ≡ sameWords (wordsOf (20 - (i + 1)) (drop (8 * (i + 1)) b)) (drop (i + 1) h)
+  same-agrees f = same-step b h i l e ∙ rw (← ew, eq-eqb w (getD h i 0) f)
 
 pub same-end : (b h : List ℕ) (i : ℕ) → 20 ≤ i → length h ≡ 20 → sameWords (wordsOf (20 - i) (drop (8 * i) b)) (drop i h) ≡ true
 same-end b h i l e =

@@ -1,6 +1,6 @@
 -- The pivot's row lies from the diagonal down; where sizes are ordered, as those of binary64 are, its size is the greatest, and it is the last of equals.
 use Prim.Native.Nat.{ℕ, zero, suc, _+_, _-_, _<_, _≤_}
-use mathlib.Core.Path.{_≡_, refl}
+use mathlib.Core.Path.{_≡_, refl, sym, ap, _∙_}
 use mathlib.Core.Bool.{Bool, true, false, cond}
 use mathlib.Core.Logic.{⊎-elim}
 use native.Mathlib.Nat.{eq-or-lt-of-le}
@@ -21,25 +21,55 @@ pivot-within F A c (suc m) = go (pivot-within F A c m) (F .asGreat (F .size (A (
     go h true = (omega arith, omega arith)
     go h false = (omega arith, omega arith)
 
--- a search from the row below the diagonal to row r
-pub pivot-first : (F : Arith) (A : Matrix F) (c : ℕ) → c ≡ pivotRow F A c (c + 1 - (c + 1))
+-- ---- the search at binary64, from the row below the diagonal down
+
+-- of rows c to r − 1 the pivot's row is `best`, and its size is `most`
+pub record Pivoting (n : ℕ) (A : ℕ → ℕ → Float) (c best : ℕ) (most : Float) (r : ℕ) : Type 0 where
+  pub below : c < r
+  pub within : r ≤ n
+  pub row : best < n
+  pub is : best ≡ pivotRow rounded A c (r - (c + 1))
+  pub size : most ≡ abs (A best c)
+
+pub pivoting-none : {n c : ℕ} {A : ℕ → ℕ → Float} {x : Float} → c < n → x ≡ abs (A c c) → Pivoting n A c c x (c + 1)
 unfolding pivotRow
-pivot-first F A c = let z : c + 1 - (c + 1) ≡ 0 = omega arith in rw z
+pivoting-none {n} {c} h e =
+    let z : c + 1 - (c + 1) ≡ 0 = omega arith in
+    record { below = omega arith; within = omega arith; row = h; is = rw z; size = e }
 
--- one row more, as great as the best so far or not
-module _ (F : Arith) (A : Matrix F) (c r best : ℕ) (below : c < r) (e : best ≡ pivotRow F A c (r - (c + 1))) where
-  pivot-more : cond (F .asGreat (F .size (A best c)) (F .size (A r c))) r best ≡ pivotRow F A c (r + 1 - (c + 1))
+-- one row more, of size x: `test` says whether it is as great as the best so far
+module _ {n c best r : ℕ} {A : ℕ → ℕ → Float} {most x : Float} {test : Bool} (s : Pivoting n A c best most r) (more : r < n) (size : x ≡ abs (A r c))
+    (tested : test ≡ asGreat most x) where
+  next : pivotRow rounded A c (r + 1 - (c + 1)) ≡ cond test r best
   unfolding pivotRow
-  pivot-more =
-      let x : r + 1 - (c + 1) ≡ suc (r - (c + 1)) = omega arith in
-      let y : c + suc (r - (c + 1)) ≡ r = omega arith in
-      rw (x, y, ← e)
+  next =
+      let y : r + 1 - (c + 1) ≡ suc (r - (c + 1)) = omega (arith, s .below) in
+      let z : c + suc (r - (c + 1)) ≡ r = omega (arith, s .below) in
+      rw (y, z, ← s .is, ← s .size, ← size, ← tested)
 
-  pub pivot-taken : F .asGreat (F .size (A best c)) (F .size (A r c)) ≡ true → r ≡ pivotRow F A c (r + 1 - (c + 1))
-  pivot-taken h = rw (← pivot-more, h)
+  -- it is taken where it is
+  pub pivoting-taken : {best′ : ℕ} {most′ : Float} → test ≡ true → best′ ≡ r → most′ ≡ x → Pivoting n A c best′ most′ (r + 1)
+  pivoting-taken h b m =
+      record {
+        below = omega (arith, s .below);
+        within = omega arith;
+        row = omega arith;
+        is = b ∙ sym (rw h at next);
+        size = m ∙ size ∙ ap (λ r. abs (A r c)) (sym b);
+      }
 
-  pub pivot-left : F .asGreat (F .size (A best c)) (F .size (A r c)) ≡ false → best ≡ pivotRow F A c (r + 1 - (c + 1))
-  pivot-left h = rw (← pivot-more, h)
+  -- and the best stays where it is not
+  pub pivoting-left : {best′ : ℕ} {most′ : Float} → test ≡ false → best′ ≡ best → most′ ≡ most → Pivoting n A c best′ most′ (r + 1)
+  pivoting-left h b m =
+      record {
+        below = omega (arith, s .below);
+        within = omega arith;
+        row = omega (arith, s .row);
+        is = b ∙ sym (rw h at next);
+        size = m ∙ s .size ∙ ap (λ r. abs (A r c)) (sym b);
+      }
+
+-- ---- its size is the greatest
 
 module _
     (F : Arith)

@@ -41,10 +41,10 @@ module _ (w c r : ℕ) (l : List Float) where
 pub cleared-rows-none : {w c lo : ℕ} {l : List Float} → ClearedRows w c lo lo l l
 cleared-rows-none = record { cells = λ r k h g j. absurd (omega arith); elsewhere = λ i h. refl }
 
-pub cleared-rows-more : (w c lo r : ℕ) (l m m′ : List Float) → c < w → lo ≤ r → (c < lo) ⊎ (r < c)
+pub cleared-rows-more : {w c lo r : ℕ} {l m m′ : List Float} → c < w → lo ≤ r → (c < lo) ⊎ (r < c)
     → ClearedRows w c lo r l m → Filled (r * w) w (clearedRow w c r m) m m′ → ClearedRows w c lo (r + 1) l m′
 unfolding cleared
-cleared-rows-more w c lo r l m m′ hc low apart s f =
+cleared-rows-more {w} {c} {lo} {r} {l} {m} hc low apart s f =
     record {
       cells = λ q k h g j.
           ⊎-elim
@@ -85,7 +85,7 @@ module _
     (hc : c < n)
     (hp : p < n)
     (narrow : n ≤ w)
-    (l m d e f : List Float)
+    {l m d e f : List Float}
     (s : Swapped (c * w) (p * w) w l m)
     (t : Filled (c * w) w (λ k. div binary64 (from (c * w) m k) (rowsOf w m c c)) m d)
     (u : ClearedRows w c 0 c d e)

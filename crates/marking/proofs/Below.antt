@@ -96,6 +96,26 @@ some-found (suc n) p h =
 pub some-not : (n : ℕ) (p : ℕ → Bool) → someTo n p ≡ false → (k : ℕ) → k < n → p k ≡ false
 some-not n p h k l = fails (p k) (λ t. false≢true (sym h ∙ some-at n p k l t))
 
+-- ---- a loop that looks for a number below n and stops at the first one
+
+-- none of the first k passes the test
+pub record Searching (n : ℕ) (p : ℕ → Bool) (k : ℕ) : Type 0 where
+  pub most : k ≤ n
+  pub none-yet : someTo k p ≡ false
+
+pub searching-none : {n : ℕ} {p : ℕ → Bool} → Searching n p 0
+searching-none {n} {p} = record { most = omega arith; none-yet = some-none p }
+
+module _ {n : ℕ} {p : ℕ → Bool} {k : ℕ} (s : Searching n p k) where
+  pub searching-more : k < n → p k ≡ false → Searching n p (k + 1)
+  searching-more h e = record { most = omega arith; none-yet = some-more k p (s .none-yet) e }
+
+  pub searching-found : k < n → p k ≡ true → true ≡ someTo n p
+  searching-found h e = sym (some-at n p k h e)
+
+  pub searching-all : n ≤ k → false ≡ someTo n p
+  searching-all h = let all : k ≡ n = omega (arith, s .most) in sym (rw all at (s .none-yet))
+
 -- ---- counts
 
 count-none : (p : ℕ → Bool) → countTo 0 p ≡ 0

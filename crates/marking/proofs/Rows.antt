@@ -3,6 +3,7 @@ use mathlib.Core.Path.{_≡_, refl}
 use mathlib.Core.Bool.{true, false}
 use mathlib.Core.List.{List}
 use Prim.Native.Nat.{ℕ, _+_, _*_, _<_, _≤_, _^_}
+use lib.ListN.{length}
 use native.Mathlib.Omega.{arith}
 use borrow.Author.Tests.{lt-ltb, le-ltb}
 use Rattle.basics.proofs.Tests.{row-in}
@@ -17,6 +18,17 @@ row-fits n stay moved x f h =
     let a = part-below stay (x * n) n (omega arith) in
     let b = part-below moved (x * n) n (omega arith) in
     omega arith
+
+-- row x of both tables lies in them, and its sums together are at most 2^53
+pub record RowInTables (n : ℕ) (stay moved : List ℕ) (x : ℕ) : Type 0 where
+  pub stay-in : x * n + n ≤ length stay
+  pub moved-in : x * n + n ≤ length moved
+  pub sums-fit : sumTo n (cellOf n stay x) + sumTo n (cellOf n moved x) ≤ 2 ^ 53
+
+pub row-in-tables : {n : ℕ} {stay moved : List ℕ} {x : ℕ} → Fitting n stay moved → x < n → RowInTables n stay moved x
+row-in-tables {n} {stay} {moved} {x} f h =
+    let r = row-in x n n h in
+    record { stay-in = omega (arith, f .stay-cells); moved-in = omega (arith, f .moved-cells); sums-fit = row-fits n stay moved x f h }
 
 module _ (N least : ℕ) (stay moved : List ℕ) (x : ℕ) where
   abbrev seen : ℕ

@@ -1,16 +1,16 @@
 -- The ways through the tests of the encoding.
 use Prim.Native.Nat.{ℕ, _+_, _*_, _-_, _/_, _%_, _≤_, _<_}
 use mathlib.Core.Path.{_≡_, sym, ap, _∙_}
-use mathlib.Core.Bool.{Bool, true, false, _&&_, _||_}
+use mathlib.Core.Bool.{Bool, true, false, not, _&&_, _||_}
 use mathlib.Core.List.{List}
 use native.Mathlib.Nat.{add-zero}
 use native.Mathlib.Omega.{arith}
 use lib.Dec.{leb, eqb}
 use lib.ListN.{length, getD}
-use borrow.Author.Tests.{eq-eqb, ne-eqb, le-leb, lt-leb, leb-true, eqb-true}
+use borrow.Author.Tests.{eq-eqb, ne-eqb, le-leb, lt-leb, leb-true, eqb-true, not-true, not-false}
 use Rattle.basics.specs.Lists.{allFrom}
 use Rattle.basics.proofs.Tests.{both, same-test}
-use Rattle.mirrored.proofs.Walks.{all-at}
+use Rattle.mirrored.proofs.Walks.{all-at, all-step, all-stop, all-end}
 use Rattle.replay.specs.Replay.{wordIn, startAt, longAt, isCall, wellCoded}
 
 -- the first word of call k
@@ -67,8 +67,20 @@ module _ (room answers : ℕ) (w : List ℕ) where
   coded-length r q = omega arith
 
   -- a call for each answer: the tests decide
-  pub coded-calls : length w ≡ 6 * answers → (b : Bool) → b ≡ allFrom (isCall room w) 0 answers → b ≡ wellCoded room answers w
+  coded-calls : length w ≡ 6 * answers → (b : Bool) → b ≡ allFrom (isCall room w) 0 answers → b ≡ wellCoded room answers w
   coded-calls e b h = rw (eq-eqb (length w) (6 * answers) e) h
+
+  -- the walk over the calls: what all give is what those from k on give; b is the test of call k
+  module _ (long : length w ≡ 6 * answers) (k : ℕ) (left : allFrom (isCall room w) 0 answers ≡ allFrom (isCall room w) k (answers - k)) where
+    pub coded-stop : {b : Bool} → k < answers → b ≡ isCall room w k → not b ≡ true → false ≡ wellCoded room answers w
+    coded-stop {b} h test f = coded-calls long false (sym (left ∙ all-stop (isCall room w) k answers h (sym test ∙ not-true b f)))
+
+    pub coded-step : {b : Bool} → k < answers → b ≡ isCall room w k → not b ≡ false
+        → allFrom (isCall room w) 0 answers ≡ allFrom (isCall room w) (k + 1) (answers - (k + 1))
+    coded-step {b} h test f = left ∙ all-step (isCall room w) k answers h (sym test ∙ not-false b f)
+
+    pub coded-end : answers ≤ k → true ≡ wellCoded room answers w
+    coded-end h = coded-calls long true (sym (left ∙ all-end (isCall room w) k answers h))
 
   -- a list that is well coded has each call whole and in the room
   pub coded-call : wellCoded room answers w ≡ true → (k : ℕ) → k < answers → (6 * k + 6 ≤ length w) × (isCall room w k ≡ true)

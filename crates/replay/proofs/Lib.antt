@@ -1,3 +1,4 @@
 pub mod Coding
 pub mod Steps
 pub mod Replays
+pub mod Replaying

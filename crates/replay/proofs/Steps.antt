@@ -18,7 +18,8 @@ use Rattle.tally.specs.Rules.{Memory}
 use Rattle.calibrator.specs.Record.{Outcome}
 use Rattle.calibrator.specs.Observe.{observed}
 use Rattle.calibrator.specs.declared.Previous.{Previous}
-use Rattle.image.specs.Image.{Saved, endSave, saved, Taken, takenUnless, restored, restoreRefusal}
+use Rattle.image.specs.Image.{Saved, endSave, saved, Taken, takenUnless, endRestore, restored, restoreRefusal}
+use Rattle.image.specs.declared.Restored.{Restored}
 use Rattle.history.specs.Calls.{Call, quote, save, restore, restores, afterRestore, act, run}
 use Rattle.replay.specs.Replay.{quoteAt, startAt, longAt, wellCoded, Site, callAt, siteAfter, answerNumber, Stepped, steppedTo, stepped, callsFrom, roomFrom, replay, replayed}
 use Rattle.replay.specs.declared.Replayed.the-variants.{Done, BadEncoding}
@@ -26,27 +27,27 @@ use Rattle.replay.proofs.Coding.{kind-is, kind-not}
 
 -- ---- the operations
 
+abbrev outcome : Check → Memory Previous → Outcome Previous
+outcome k left = record { answer = k; left = left }
+
 -- a number and memory are those that a call ends with
 abbrev Ends : MicroPriceConfig → Memory Previous → Call → ℕ → Memory Previous → Type 0
 Ends c m l n left = (n ≡ answerNumber c (act c m l .answer)) × (left ≡ act c m l .left)
 
-pub quote-ends : (c : MicroPriceConfig) (m : Memory Previous) (q : TopOfBook) (o : Outcome Previous) (n : ℕ) → o ≡ observed c m q → n ≡ checkNumber (o .answer)
-    → Ends c m (quote q) n (o .left)
-quote-ends c m q o n e h = (
-  h ∙ ap (λ (p : Outcome Previous). checkNumber (p .answer)) e,
-  ap (λ (p : Outcome Previous). p .left) e,
-)
+pub quote-ends : (c : MicroPriceConfig) (m : Memory Previous) (q : TopOfBook) {k : Check} {left : Memory Previous} {n : ℕ}
+    → outcome k left ≡ observed c m q → n ≡ checkNumber k → Ends c m (quote q) n left
+quote-ends c m q e h = (h ∙ ap (λ (p : Outcome Previous). checkNumber (p .answer)) e, ap (λ (p : Outcome Previous). p .left) e)
 
 -- a restore into the calibrator's own memory: a refusal leaves it
 own-left : (k : Check) (b : List ℕ) (m : Memory Previous) → takenUnless k b m .left ≡ afterRestore (takenUnless k b m .answer) m (takenUnless k b m .left)
 own-left Fine b m = refl
 own-left (Refused r) b m = refl
 
-pub restore-ends : (c : MicroPriceConfig) (m : Memory Previous) (b : List ℕ) (t : Taken) (n : ℕ) → t ≡ restored b m → n ≡ answerNumber c (restores (t .answer))
-    → Ends c m (restore b m) n (t .left)
-restore-ends c m b t n e h = (
-  h ∙ ap (λ (u : Taken). answerNumber c (restores (u .answer))) e,
-  ap (λ (u : Taken). u .left) e ∙ own-left (restoreRefusal b (m .counts .tables)) b m,
+pub restore-ends : (c : MicroPriceConfig) (m : Memory Previous) (b : List ℕ) {a : Restored} {left : Memory Previous} {n : ℕ}
+    → endRestore a left ≡ restored b m → n ≡ answerNumber c (restores a) → Ends c m (restore b m) n left
+restore-ends c m b e h = (
+  h ∙ ap (λ (t : Taken). answerNumber c (restores (t .answer))) e,
+  ap (λ (t : Taken). t .left) e ∙ own-left (restoreRefusal b (m .counts .tables)) b m,
 )
 
 -- ---- one call
@@ -65,49 +66,50 @@ module _ (a n : ℕ) (xs : List ℕ) where
       ∙ sym (append-assoc (take a xs) ys (drop (a + length ys) xs))
       ∙ sym (sets-eq ys xs a (omega arith))
 
-module _ (c : MicroPriceConfig) (w : List ℕ) (k : ℕ) (m : Memory Previous) (room : List ℕ) where
-  abbrev here : Site
-  here = record { memory = m; room = room }
-
+-- call k at the site s, by its kind
+module _ (c : MicroPriceConfig) (w : List ℕ) (k : ℕ) (s : Site) where
   abbrev bytes : List ℕ
-  bytes = take (longAt w k) (drop (startAt w k) room)
+  bytes = take (longAt w k) (drop (startAt w k) (s .room))
 
   -- the length of the part that is lent
   abbrev lent : ℕ
   lent = startAt w k + longAt w k - startAt w k
 
   abbrev steppedBy : Call → Stepped
-  steppedBy l = let a = act c m l in steppedTo (answerNumber c (a .answer)) (siteAfter a (startAt w k) room)
+  steppedBy l = let a = act c (s .memory) l in steppedTo (answerNumber c (a .answer)) (siteAfter a (startAt w k) (s .room))
 
-  is-quote : getD w (6 * k) 0 ≡ 0 → quote (quoteAt w k) ≡ callAt w k here
+  abbrev stepsTo : ℕ → Memory Previous → List ℕ → Type 0
+  stepsTo n m room = steppedTo n (record { memory = m; room = room }) ≡ stepped c w k s
+
+  is-quote : getD w (6 * k) 0 ≡ 0 → quote (quoteAt w k) ≡ callAt w k s
   is-quote e = rw (kind-is w k 0 e)
 
-  is-save : (getD w (6 * k) 0 ≡ 0 → ⊥) → getD w (6 * k) 0 ≡ 1 → save bytes ≡ callAt w k here
+  is-save : (getD w (6 * k) 0 ≡ 0 → ⊥) → getD w (6 * k) 0 ≡ 1 → save bytes ≡ callAt w k s
   is-save d e = rw (kind-not w k 0 d, kind-is w k 1 e)
 
-  is-restore : (getD w (6 * k) 0 ≡ 0 → ⊥) → (getD w (6 * k) 0 ≡ 1 → ⊥) → restore bytes m ≡ callAt w k here
+  is-restore : (getD w (6 * k) 0 ≡ 0 → ⊥) → (getD w (6 * k) 0 ≡ 1 → ⊥) → restore bytes (s .memory) ≡ callAt w k s
   is-restore d e = rw (kind-not w k 0 d, kind-not w k 1 e)
 
-  pub step-quote : getD w (6 * k) 0 ≡ 0 → (q : TopOfBook) → q ≡ quoteAt w k → (n : ℕ) (m′ : Memory Previous) → Ends c m (quote q) n m′
-      → steppedTo n (record { memory = m′; room = room }) ≡ stepped c w k here
-  step-quote e q eq n m′ p =
-      (λ i. steppedTo (p .0 i) (record { memory = p .1 i; room = room })) ∙ ap steppedBy (ap quote eq ∙ is-quote e)
+  pub step-quote : getD w (6 * k) 0 ≡ 0 → {q : TopOfBook} {n : ℕ} {m : Memory Previous} → q ≡ quoteAt w k → Ends c (s .memory) (quote q) n m
+      → stepsTo n m (s .room)
+  step-quote e eq p = (λ i. steppedTo (p .0 i) (record { memory = p .1 i; room = s .room })) ∙ ap steppedBy (ap quote eq ∙ is-quote e)
 
-  pub step-save : (getD w (6 * k) 0 ≡ 0 → ⊥) → getD w (6 * k) 0 ≡ 1 → startAt w k + longAt w k ≤ length room → (a : Check) (ys : List ℕ)
-      → endSave a ys ≡ saved c m (take lent (drop (startAt w k) room)) → length ys ≡ length (midOf (startAt w k) lent room) → (n : ℕ) → n ≡ checkNumber a
-      → steppedTo n (record { memory = m; room = putMid (startAt w k) lent room ys }) ≡ stepped c w k here
-  step-save d e h a ys es el n en =
-      let s : endSave a ys ≡ saved c m bytes = es ∙ ap (saved c m) (part-is (startAt w k) (longAt w k) room) in
-      let N : n ≡ checkNumber (saved c m bytes .answer) = en ∙ ap (λ (t : Saved). checkNumber (t .answer)) s in
-      let R : putMid (startAt w k) lent room ys ≡ sets room (startAt w k) (saved c m bytes .output) =
-      put-is (startAt w k) (longAt w k) room ys h el ∙ ap (λ (t : Saved). sets room (startAt w k) (t .output)) s in
-      (λ i. steppedTo (N i) (record { memory = m; room = R i })) ∙ ap steppedBy (is-save d e)
+  pub step-save : (getD w (6 * k) 0 ≡ 0 → ⊥) → getD w (6 * k) 0 ≡ 1 → startAt w k + longAt w k ≤ length (s .room) → {a : Check} (ys : List ℕ) {n : ℕ}
+      → endSave a ys ≡ saved c (s .memory) (take lent (drop (startAt w k) (s .room))) → length ys ≡ length (midOf (startAt w k) lent (s .room))
+      → n ≡ checkNumber a → stepsTo n (s .memory) (putMid (startAt w k) lent (s .room) ys)
+  step-save d e h ys {n} es el en =
+      let o = saved c (s .memory) bytes in
+      let S : endSave _ ys ≡ o = es ∙ ap (saved c (s .memory)) (part-is (startAt w k) (longAt w k) (s .room)) in
+      let N : n ≡ checkNumber (o .answer) = en ∙ ap (λ (t : Saved). checkNumber (t .answer)) S in
+      let R : putMid (startAt w k) lent (s .room) ys ≡ sets (s .room) (startAt w k) (o .output) =
+      put-is (startAt w k) (longAt w k) (s .room) ys h el ∙ ap (λ (t : Saved). sets (s .room) (startAt w k) (t .output)) S in
+      (λ i. steppedTo (N i) (record { memory = s .memory; room = R i })) ∙ ap steppedBy (is-save d e)
 
-  pub step-restore : (getD w (6 * k) 0 ≡ 0 → ⊥) → (getD w (6 * k) 0 ≡ 1 → ⊥) → (n : ℕ) (m′ : Memory Previous)
-      → Ends c m (restore (take lent (drop (startAt w k) room)) m) n m′ → steppedTo n (record { memory = m′; room = room }) ≡ stepped c w k here
-  step-restore d e n m′ p =
-      (λ i. steppedTo (p .0 i) (record { memory = p .1 i; room = room }))
-      ∙ ap steppedBy (ap (λ (l : List ℕ). restore l m) (part-is (startAt w k) (longAt w k) room) ∙ is-restore d e)
+  pub step-restore : (getD w (6 * k) 0 ≡ 0 → ⊥) → (getD w (6 * k) 0 ≡ 1 → ⊥) → {n : ℕ} {m : Memory Previous}
+      → Ends c (s .memory) (restore (take lent (drop (startAt w k) (s .room))) (s .memory)) n m → stepsTo n m (s .room)
+  step-restore d e p =
+      (λ i. steppedTo (p .0 i) (record { memory = p .1 i; room = s .room }))
+      ∙ ap steppedBy (ap (λ (l : List ℕ). restore l (s .memory)) (part-is (startAt w k) (longAt w k) (s .room)) ∙ is-restore d e)
 
 -- ---- the steps
 

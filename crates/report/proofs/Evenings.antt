@@ -16,15 +16,17 @@ use Rattle.text.specs.declared.Request.{Request}
 use Rattle.lines.specs.Lines.{PutIn}
 use Rattle.report.specs.Printed.{configOf, newRecord, Zeros, eveningOf, outcomeText, mostBytes}
 
-pub evening-zeros : (r : Request) (ws : List ℕ) (c : MicroPriceConfig) (x : Record) (stay moved : List ℕ) (totals : List ℤ) (scratch : List Float)
-    (model : List ℕ)
+-- a new calibrator and zeros
+pub evening-zeros : {c : MicroPriceConfig} {x : Record} {stay moved : List ℕ} {totals : List ℤ} {scratch : List Float} {model : List ℕ} (r : Request)
+    (ws : List ℕ)
     → c ≡ configOf r
     → x ≡ newRecord
     → Zeros (states (configOf r)) stay moved totals scratch model
     → calibrated c (memory x stay moved totals) ws (r .start) (r .end) model scratch ≡ eveningOf r ws
-evening-zeros r ws c x stay moved totals scratch model e f z =
+evening-zeros r ws e f z =
     λ i. calibrated (e i) (memory (f i) (z .stay-is i) (z .moved-is i) (z .totals-is i)) ws (r .start) (r .end) (z .model-is i) (z .scratch-is i)
 
+-- equal outcomes over as many states have the same lines
 pub outcome-text : {n N : ℕ} {o p : EveningOutcome} {out left : List ℕ} {k : ℕ} → n ≡ N → o ≡ p → PutIn mostBytes out 0 (outcomeText n o) k left
     → PutIn mostBytes out 0 (outcomeText N p) k left
 outcome-text {out = out} {left = left} {k = k} e f h = subst (λ (l : List ℕ). PutIn mostBytes out 0 l k left) (λ i. outcomeText (e i) (f i)) h
@@ -36,14 +38,15 @@ front x zero m h = refl
 front x (suc k) zero h = absurd (omega arith)
 front x (suc k) (suc m) h = ap (λ l. x ∷ l) (front x k m (omega arith))
 
-pub cut-zeros : (a b d e n cells room : ℕ) → (cells ≡ n * n) × (cells ≤ a) → n ≤ b → (room ≡ n * (2 * n + 10)) × (room ≤ d) → 7 * n ≤ e
-    → Zeros n (take cells (replicate a 0)) (take cells (replicate a 0)) (take n (replicate b (pos 0))) (take room (replicate d posZero))
-    (take (7 * n) (replicate e 0))
-cut-zeros a b d e n cells room (p, s) t (q, u) v =
+-- for n states, at most 27
+pub cut-zeros : {n cells room : ℕ} → n ≤ 27 → (cells ≡ n * n) × (cells ≤ 27 * n) → (room ≡ n * (2 * n + 10)) × (room ≤ 27 * (2 * n + 10))
+    → Zeros n (take cells (replicate 729 0)) (take cells (replicate 729 0)) (take n (replicate 27 (pos 0))) (take room (replicate 1728 posZero))
+    (take (7 * n) (replicate 189 0))
+cut-zeros {n} {cells} {room} h (p, s) (q, u) =
     record {
-      stay-is = front 0 cells a s ∙ ap (λ k. replicate k 0) p;
-      moved-is = front 0 cells a s ∙ ap (λ k. replicate k 0) p;
-      totals-is = front (pos 0) n b t;
-      scratch-is = front posZero room d u ∙ ap (λ k. replicate k posZero) q;
-      model-is = front 0 (7 * n) e v;
+      stay-is = front 0 cells 729 (omega arith) ∙ ap (λ k. replicate k 0) p;
+      moved-is = front 0 cells 729 (omega arith) ∙ ap (λ k. replicate k 0) p;
+      totals-is = front (pos 0) n 27 h;
+      scratch-is = front posZero room 1728 (omega arith) ∙ ap (λ k. replicate k posZero) q;
+      model-is = front 0 (7 * n) 189 (omega arith);
     }

@@ -6,6 +6,7 @@ use native.Mathlib.Omega.{arith}
 use borrow.Author.Tests.{lt-ltb, le-ltb}
 use lib.ListN.{length, take}
 use Rattle.text.specs.Text.{Admissible}
+use Rattle.text.specs.Written.{Put}
 use Rattle.text.specs.Reading.{Reading, asked, bad, readText, ReadBy}
 use Rattle.text.specs.declared.Request.{Request}
 use Rattle.text.specs.declared.Read.{Read}
@@ -13,25 +14,38 @@ use Rattle.text.specs.declared.Read.the-variants as Read
 use Rattle.text.proofs.Faithful.{text-read}
 use Rattle.text.proofs.Promised.{reading-bad, answer-request}
 use Rattle.lines.specs.Lines.{PutIn}
-use Rattle.lines.proofs.Within.{loosely}
-use Rattle.report.specs.Printed.{printed, eveningText, mostBytes, textFor}
+use Rattle.lines.proofs.Within.{bytes-in, loosely}
+use Rattle.report.specs.Printed.{badLine, printed, eveningText, mostBytes, textFor}
 
--- the reading behind an answer: a request and the words in front of the recording, or bad input
-module _ (b before left : List ℕ) (x : Read) (r : ReadBy (readText b) before x left) where
-  pub asked-by : {q : Request} → x ≡ Read.Request q → 5000 ≤ length before
+-- `r` is what `read_text` says of the bytes b of a text
+module _ (b : List ℕ) {before left : List ℕ} {x : Read} (r : ReadBy (readText b) before x left) where
+  -- the reading behind an answer: a request and the words in front of the recording, or bad input
+  asked-by : {q : Request} → x ≡ Read.Request q → 5000 ≤ length before
       → (readText b ≡ asked q (take (5 * q .quotes) left)) × Admissible q (take (5 * q .quotes) left)
   asked-by {q} e h =
       let t = answer-request b before left q h (subst (λ (y : Read). ReadBy (readText b) before y left) e r) in
       (ap readText (sym (t .0)) ∙ text-read q (take (5 * q .quotes) left) (t .1), t .1)
 
-  pub bad-by : x ≡ Read.Bad → readText b ≡ bad
+  bad-by : x ≡ Read.Bad → readText b ≡ bad
   bad-by e = reading-bad (readText b) (sym e ∙ r .answer)
 
--- the lines of the reading are those of the text
-pub text-by : {most k : ℕ} {out left : List ℕ} (b : List ℕ) (g : Reading) → readText b ≡ g → PutIn most out 0 (printed g) k left
-    → PutIn most out 0 (eveningText b) k left
-unfolding eveningText
-text-by {most} {k} {out} {left} b g e p = subst (λ (g : Reading). PutIn most out 0 (printed g) k left) (sym e) p
+  -- a request is for at most 1,000 quotes and 27 states
+  pub asked-few : {q : Request} → x ≡ Read.Request q → 5000 ≤ length before → (q .quotes ≤ 1000) × (q .buckets * q .«spread_states» ≤ 27)
+  asked-few e h = let a = asked-by e h .1 in (a .few, a .states)
+
+  -- the lines of the reading are those of the text
+  module _ {out done : List ℕ} {k : ℕ} where
+    text-by : (g : Reading) → readText b ≡ g → PutIn mostBytes out 0 (printed g) k done → PutIn mostBytes out 0 (eveningText b) k done
+    unfolding eveningText
+    text-by g e p = subst (λ (y : Reading). PutIn mostBytes out 0 (printed y) k done) (sym e) p
+
+    pub bad-text : x ≡ Read.Bad → Put out 0 badLine k done → PutIn mostBytes out 0 (eveningText b) k done
+    bad-text e p = text-by bad (bad-by e) (loosely (omega arith) (bytes-in p))
+
+    pub request-text : {q : Request} → x ≡ Read.Request q → 5000 ≤ length before
+        → PutIn mostBytes out 0 (printed (asked q (take (5 * q .quotes) left))) k done
+        → PutIn mostBytes out 0 (eveningText b) k done
+    request-text {q} e h p = text-by (asked q (take (5 * q .quotes) left)) (asked-by e h .0) p
 
 -- ---- for every output
 

@@ -25,8 +25,8 @@ use Rattle.series.proofs.Vectors.{SameVector, SameSeries, dot-same, lar
 -- ---- what can be read while a part is written
 
 -- a column of the rows, into a part behind them
-pub column-read : (n c to : ℕ) (l : List Float) → c < width n → n * width n ≤ to → to + n ≤ length l → Column n (width n) c to l
-column-read n c to l h g r =
+pub column-read : {n c to : ℕ} {l : List Float} → c < width n → n * width n ≤ to → to + n ≤ length l → Column n (width n) c to l
+column-read {n} h g r =
     record {
       room = r;
       inside = λ k q. omega (arith, row-in k n (width n) q);
@@ -34,8 +34,8 @@ column-read n c to l h g r =
     }
 
 -- a part, into itself or one before it
-pub part-read : (n a to : ℕ) (l : List Float) → to ≤ a → a + n ≤ length l → Column n 1 a to l
-part-read n a to l h r = record { room = omega arith; inside = λ k q. omega arith; unwritten = λ k q. inr (omega arith) }
+pub part-read : {n a to : ℕ} {l : List Float} → to ≤ a → a + n ≤ length l → Column n 1 a to l
+part-read h r = record { room = omega arith; inside = λ k q. omega arith; unwritten = λ k q. inr (omega arith) }
 
 one-wide : (l : List Float) (k a : ℕ) → rowsOf 1 l k a ≡ from a l k
 one-wide l k a = let e : k * 1 + a ≡ a + k = omega arith in ap (at l) e
@@ -47,8 +47,8 @@ same-B n l m h i j p q = h (i * width n + (n + 2 + j)) (omega (arith, row-in i n
 -- ---- one round of the series: the product, copied to term, added to sum
 
 module _
-    (n : ℕ)
-    (l m₁ m₂ m₃ : List Float)
+    {n : ℕ}
+    {l m₁ m₂ m₃ : List Float}
     (p : ProductTo n (termAt n) n l m₁)
     (c : Filled (termAt n) n (λ k. rowsOf 1 m₁ k (nextAt n)) m₁ m₂)
     (a : Filled (sumAt n) n (λ k. add binary64 (rowsOf 1 m₂ k (sumAt n)) (from (nextAt n) m₂ k)) m₂ m₃) where
@@ -69,9 +69,9 @@ module _
   term₃ : (k : ℕ) → k < n → from (termAt n) m₃ k ≡ P k
   term₃ k h = a .elsewhere (termAt n + k) (inr (omega arith)) ∙ term₂ k h
 
-  pub term-added : (x : Float) → x ≡ largest rounded n (from (termAt n) m₃) → TermAdded n l x m₃
+  pub term-added : {x : Float} → x ≡ largest rounded n (from (termAt n) m₃) → TermAdded n l x m₃
   unfolding P
-  term-added x e =
+  term-added e =
       record {
         size = e ∙ largest-same rounded n _ _ term₃;
         sums = λ k h. a .cells k h ∙ rw (sum₂ k h, next₂ k h);
@@ -96,8 +96,8 @@ pub record Running (n rounds left : ℕ) (l m : List Float) : Type 0 where
   pub nexts : (k : ℕ) → k < n → from (nextAt n) m k ≡ cond (eqb rounds left) (from (nextAt n) l k) (last k)
   pub elsewhere : (i : ℕ) → Outside (sumAt n) n i → Outside (termAt n) (2 * n) i → at m i ≡ at l i
 
-pub running-none : (n rounds : ℕ) (l : List Float) → Running n rounds rounds l l
-running-none n rounds l =
+pub running-none : {n rounds : ℕ} {l : List Float} → Running n rounds rounds l l
+running-none {n} {rounds} {l} =
     record {
       fewer = omega arith;
       total = from (sumAt n) l;
@@ -109,7 +109,7 @@ running-none n rounds l =
       elsewhere = λ i h g. refl;
     }
 
-module _ (n rounds left : ℕ) (l m m′ : List Float) (x : Float) (more : 0 < left) (r : Running n rounds left l m) (t : TermAdded n m x m′) where
+module _ {n rounds left : ℕ} {l m m′ : List Float} {x : Float} (more : 0 < left) (r : Running n rounds left l m) (t : TermAdded n m x m′) where
   B : ℕ → ℕ → Float
   B = solvedB n l
 
@@ -188,10 +188,10 @@ module _ (n rounds left : ℕ) (l m m′ : List Float) (x : Float) (more : 0 < l
         elsewhere = elsewhere′;
       }
 
-pub run-out : (n rounds : ℕ) (l m : List Float) → Running n rounds 0 l m
+pub run-out : {n rounds : ℕ} {l m : List Float} → Running n rounds 0 l m
     → Summed n rounds (summed rounded n (solvedB n l) rounds (from (sumAt n) l) (from (termAt n) l)) l NotConverged m
 unfolding summed
-run-out n rounds l m r = rw (r .rest) (record { answers = refl; sums = r .sums; terms = r .terms; nexts = r .nexts; elsewhere = r .elsewhere })
+run-out r = rw (r .rest) (record { answers = refl; sums = r .sums; terms = r .terms; nexts = r .nexts; elsewhere = r .elsewhere })
 
 -- ---- the series from G1
 
@@ -221,11 +221,11 @@ pub summed-of : (n rounds : ℕ) (l m : List Float) (x : Sum) (B : ℕ → ℕ �
 summed-of n rounds l m x B G1 h g = summed-same _ _ (series-same rounded n (solvedB n l) B h rounds _ _ _ _ g g)
 
 -- G1 copied to sum and to term, and the run from there
-pub sum-started : (n rounds : ℕ) (l m₁ m₂ m₃ : List Float) (x : Sum) → Filled (sumAt n) n (λ k. rowsOf (width n) l k n) l m₁
+pub sum-started : {n rounds : ℕ} {l m₁ m₂ m₃ : List Float} {x : Sum} → Filled (sumAt n) n (λ k. rowsOf (width n) l k n) l m₁
     → Filled (termAt n) n (λ k. rowsOf (width n) m₁ k n) m₁ m₂
     → Summed n rounds (summed rounded n (solvedB n m₂) rounds (from (sumAt n) m₂) (from (termAt n) m₂)) m₂ x m₃
     → Summed n rounds (sumSeries rounded n (solvedB n l) (solvedG1 n l) rounds) l x m₃
-sum-started n rounds l m₁ m₂ m₃ x s t e =
+sum-started {n} {rounds} {l} {m₁} {m₂} {m₃} {x} s t e =
     record {
       answers = d .answers;
       sums = d .sums;
@@ -257,10 +257,10 @@ sum-started n rounds l m₁ m₂ m₃ x s t e =
 -- ---- rounds of the share
 
 -- one round: the product, and F plus it
-pub share-round : (n : ℕ) (l m₁ m₂ : List Float) → ProductTo n (shareAt n) n l m₁
+pub share-round : {n : ℕ} {l m₁ m₂ : List Float} → ProductTo n (shareAt n) n l m₁
     → Filled (shareAt n) n (λ k. add binary64 (rowsOf (width n) m₁ k (n + 1)) (from (nextAt n) m₁ k)) m₁ m₂
     → Shared n 1 (plus rounded (solvedF n l) (times rounded n (solvedB n l) (from (shareAt n) l))) (times rounded n (solvedB n l) (from (shareAt n) l)) l m₂
-share-round n l m₁ m₂ p a =
+share-round {n} {l} {m₁} p a =
     record {
       shares = λ k h. a .cells k h ∙ rw (F k h, p .cells k h);
       nexts = λ k h. a .elsewhere (nextAt n + k) (inr (omega arith)) ∙ p .cells k h;
@@ -270,17 +270,17 @@ share-round n l m₁ m₂ p a =
     F : (k : ℕ) → k < n → rowsOf (width n) m₁ k (n + 1) ≡ solvedF n l k
     F k h = p .elsewhere (k * width n + (n + 1)) (inl (omega (arith, row-in k n (width n) h)))
 
-pub shares-none : (n : ℕ) (l : List Float) → SameVector n (from (shareAt n) l) (solvedF n l)
+pub shares-none : {n : ℕ} {l : List Float} → SameVector n (from (shareAt n) l) (solvedF n l)
     → Shared n 0 (shareAfter rounded n (solvedB n l) (solvedF n l) 0) (lastProduct n (solvedB n l) (solvedF n l) 0) l l
 unfolding shareAfter
-shares-none n l h = record { shares = h; nexts = λ k g. refl; elsewhere = λ i h g. refl }
+shares-none h = record { shares = h; nexts = λ k g. refl; elsewhere = λ i h g. refl }
 
-pub shares-more : (n done : ℕ) (l m m′ : List Float)
+pub shares-more : {n done : ℕ} {l m m′ : List Float}
     → Shared n done (shareAfter rounded n (solvedB n l) (solvedF n l) done) (lastProduct n (solvedB n l) (solvedF n l) done) l m
     → Shared n 1 (plus rounded (solvedF n m) (times rounded n (solvedB n m) (from (shareAt n) m))) (times rounded n (solvedB n m) (from (shareAt n) m)) m m′
     → Shared n (done + 1) (shareAfter rounded n (solvedB n l) (solvedF n l) (done + 1)) (lastProduct n (solvedB n l) (solvedF n l) (done + 1)) l m′
 unfolding shareAfter
-shares-more n done l m m′ s r =
+shares-more {n} {done} {l} {m} s r =
     record {
       shares = λ k h. rw add-one (r .shares k h ∙ rw (F k h, product k h));
       nexts = λ k h. rw (ne-eqb (done + 1) 0 (omega arith), back) (r .nexts k h ∙ product k h);
@@ -301,8 +301,8 @@ shares-more n done l m m′ s r =
     product i h = dot-same rounded n _ _ _ _ (λ j g. same-B n l m rows i j h g) (s .shares)
 
 -- F copied to share
-pub share-copied : (n : ℕ) (l m : List Float) → Filled (shareAt n) n (λ k. rowsOf (width n) l k (n + 1)) l m → SameVector n (from (shareAt n) m) (solvedF n m)
-share-copied n l m c k h = c .cells k h ∙ sym (c .elsewhere (k * width n + (n + 1)) (inl (omega (arith, row-in k n (width n) h))))
+pub share-copied : {n : ℕ} {l m : List Float} → Filled (shareAt n) n (λ k. rowsOf (width n) l k (n + 1)) l m → SameVector n (from (shareAt n) m) (solvedF n m)
+share-copied {n} c k h = c .cells k h ∙ sym (c .elsewhere (k * width n + (n + 1)) (inl (omega (arith, row-in k n (width n) h))))
 
 -- what the rounds leave, told by vectors that agree
 shared-same : {n rounds : ℕ} {u p u′ p′ : ℕ → Float} {l m : List Float} → SameVector n u u′ → SameVector n p p′ → Shared n rounds u p l m
@@ -329,11 +329,11 @@ module _ (n rounds : ℕ) (l : List Float) (B : ℕ → ℕ → Float) (F : ℕ 
   shared-of m = shared-same (λ k h. ap clamp (share-agrees rounds k h)) product-agrees
 
 -- F copied to share, so many rounds, and the clamp
-pub share-started : (n rounds : ℕ) (l m₁ m₂ m₃ : List Float) → Filled (shareAt n) n (λ k. rowsOf (width n) l k (n + 1)) l m₁
+pub share-started : {n rounds : ℕ} {l m₁ m₂ m₃ : List Float} → Filled (shareAt n) n (λ k. rowsOf (width n) l k (n + 1)) l m₁
     → Shared n rounds (shareAfter rounded n (solvedB n m₁) (solvedF n m₁) rounds) (lastProduct n (solvedB n m₁) (solvedF n m₁) rounds) m₁ m₂
     → Filled (shareAt n) n (λ k. clamp (from (shareAt n) m₂ k)) m₂ m₃
     → Shared n rounds (fallbackWithinMoves rounded n (solvedB n l) (solvedF n l) rounds) (lastProduct n (solvedB n l) (solvedF n l) rounds) l m₃
-share-started n rounds l m₁ m₂ m₃ c s f =
+share-started {n} {rounds} {l} {m₁} {m₂} c s f =
     record {
       shares = λ k h. f .cells k h ∙ ap clamp (d .shares k h);
       nexts = λ k h. f .elsewhere (nextAt n + k) (inr (omega arith)) ∙ d .nexts k h ∙ rw (c .elsewhere (nextAt n + k) (inr (omega arith)));

@@ -82,17 +82,25 @@ pub within-size : (z : ℤ) → within z ≡ true → natAbs z ≤ cellLimit
 within-size z e = leb-true (natAbs z) cellLimit e
 
 -- the test for a total far outside is a test of its size
-outside : (z : ℤ) → (ltZ z (negsuc 18014398509481983) || ltZ (pos 18014398509481984) z) ≡ ltb 18014398509481984 (natAbs z)
+abbrev isFar : ℤ → Bool
+isFar z = ltZ z (negsuc 18014398509481983) || ltZ (pos 18014398509481984) z
+
+outside : (z : ℤ) → isFar z ≡ ltb 18014398509481984 (natAbs z)
 outside (pos n) = refl
 outside (negsuc n) = or-false (ltb 18014398509481983 n) ∙ sym (leb·suc-suc (suc 18014398509481983) n)
 
-pub far : (total d : ℤ) → (ltZ total (negsuc 18014398509481983) || ltZ (pos 18014398509481984) total) ≡ true → natAbs d ≤ 2 ^ 53 → within (total +ℤ d) ≡ false
-far total d e h =
-    lt-leb (natAbs (total +ℤ d)) cellLimit
-    (omega (arith, size-part total d, ltb-true 18014398509481984 (natAbs total) (sym (outside total) ∙ e)))
+-- the code makes it of the word that holds the total
+module _ (total : ℤ) (h : mag total < 2 ^ 63) where
+  far-size : (b : Bool) → isFar (toZ w64 (ofZ w64 total)) ≡ b → ltb 18014398509481984 (natAbs total) ≡ b
+  far-size b e = sym (outside total) ∙ (rw (back total h) at e)
 
-pub near : (total : ℤ) → (ltZ total (negsuc 18014398509481983) || ltZ (pos 18014398509481984) total) ≡ false → natAbs total < 2 ^ 60
-near total e = omega (arith, ltb-false 18014398509481984 (natAbs total) (sym (outside total) ∙ e))
+  pub far : isFar (toZ w64 (ofZ w64 total)) ≡ true → (d : ℤ) → natAbs d ≤ 2 ^ 53 → within (total +ℤ d) ≡ false
+  far e d s =
+      lt-leb (natAbs (total +ℤ d)) cellLimit
+      (omega (arith, size-part total d, ltb-true 18014398509481984 (natAbs total) (far-size true e)))
+
+  pub near : isFar (toZ w64 (ofZ w64 total)) ≡ false → natAbs total < 2 ^ 60
+  near e = omega (arith, ltb-false 18014398509481984 (natAbs total) (far-size false e))
 
 -- the distance is the change's size
 pub distance-down : (a b : ℕ) → b < a → a - b ≡ natAbs (change a b)

@@ -1,7 +1,7 @@
 -- A row of the system as its parts, and the rows one after another.
 use Prim.Native.Nat.{ℕ, _+_, _-_, _*_, _<_, _≤_, _^_}
 use mathlib.Core.Path.{_≡_, refl, sym, ap, _∙_}
-use mathlib.Core.Bool.{Bool, cond}
+use mathlib.Core.Bool.{Bool, true, cond}
 use mathlib.Core.List.{List}
 use mathlib.Core.Logic.{_≢_, _⊎_, inl, inr, ⊎-elim}
 use native.Mathlib.Nat.{suc-mul, eq-or-lt-of-le}
@@ -12,22 +12,23 @@ use lib.Dec.{eqb}
 use lib.IntN.{ℤ, pos}
 use lib.ListN.{length, set, length-set}
 use lib.Seq.{getD-set-same, getD-set-other}
-use lib.Ieee.{Float, nan, binary64, sub, neg}
+use lib.Ieee.{Float, nan, binary64, inFloat, sub, neg}
 use Rattle.basics.proofs.Tests.{le-or-lt}
 use Rattle.floats.specs.Floats.{posZero, one}
 use Rattle.model.specs.Status.{statusNumber}
 use Rattle.model.specs.declared.StateStatus.{StateStatus}
 use Rattle.model.specs.declared.StateStatus.the-variants.{Calibrated, Rare, NoPriceMove, OutsideQuotes}
-use Rattle.marking.specs.Marks.{Cells, cellOf, Fitting, observations}
+use Rattle.marking.specs.Marks.{Cells, cellOf, cellsOf, observations, markOf}
 use Rattle.marking.specs.Below.{sumTo}
 use Rattle.marking.proofs.Below.{sum-more, sum-part}
-use Rattle.marking.proofs.Rows.{row-fits}
+use Rattle.marking.proofs.Rows.{row-in-tables, any-least, observations-fit}
 use Rattle.linear.specs.Arithmetic.{rounded}
 use Rattle.linear.specs.Elimination.{system}
 use Rattle.linear.specs.Flat.{at, from, Becomes}
 use Rattle.series.specs.Scratch.{width}
 use Rattle.linear.specs.Loops.{Filled}
 use Rattle.linear.proofs.Parts.{outside-row}
+use Rattle.system.specs.Tables.{totalOf, Exact}
 use Rattle.system.specs.Rows.{isCalibrated, used, part, Q, T, K, fallback, systemOf}
 
 -- ---- numbers of a row
@@ -35,12 +36,29 @@ use Rattle.system.specs.Rows.{isCalibrated, used, part, Q, T, K, fallbac
 cell-below : (n k : ℕ) (f : ℕ → ℕ) → k < n → f k ≤ sumTo n f
 cell-below n k f h = omega (arith, sum-more k f, sum-part (k + 1) n f (omega arith))
 
-module _ (n : ℕ) (stay moved : List ℕ) (x : ℕ) (f : Fitting n stay moved) (h : x < n) where
-  pub stay-fits : (k : ℕ) → k < n → cellOf n stay x k ≤ 2 ^ 53
-  stay-fits k g = omega (arith, cell-below n k (cellOf n stay x) g, row-fits n stay moved x f h)
+-- row x lies in the tables, and its cells, its move total and its observations o are exact as floats
+pub record RowExact (n : ℕ) (stay moved : List ℕ) (totals : List ℤ) (x o : ℕ) : Type 0 where
+  pub stay-in : x * n + n ≤ length stay
+  pub stay-exact : (k : ℕ) → k < n → cellOf n stay x k ≤ 2 ^ 53
+  pub moved-in : x * n + n ≤ length moved
+  pub moved-exact : (k : ℕ) → k < n → cellOf n moved x k ≤ 2 ^ 53
+  pub total-in : x < length totals
+  pub total-exact : inFloat binary64 (totalOf totals x) ≡ true
+  pub observed-exact : o ≤ 2 ^ 53
 
-  pub moved-fits : (k : ℕ) → k < n → cellOf n moved x k ≤ 2 ^ 53
-  moved-fits k g = omega (arith, cell-below n k (cellOf n moved x) g, row-fits n stay moved x f h)
+pub row-exact : {n : ℕ} {stay moved : List ℕ} {totals : List ℤ} {x o : ℕ} → Exact n stay moved totals → x < n
+    → o ≡ observations (cellsOf n 0 stay moved) x → RowExact n stay moved totals x o
+row-exact {n} {stay} {moved} {totals} {x} {o} e h is-o =
+    let r = row-in-tables (e .cells) h in
+    record {
+      stay-in = r .stay-in;
+      stay-exact = λ k g. omega (arith, cell-below n k (cellOf n stay x) g);
+      moved-in = r .moved-in;
+      moved-exact = λ k g. omega (arith, cell-below n k (cellOf n moved x) g);
+      total-in = omega (arith, e .totals-long);
+      total-exact = e .totals-exact x h;
+      observed-exact = rw is-o (observations-fit n 0 stay moved x (e .cells) h);
+    }
 
 -- the number of a mark tells whether the row is used
 pub used-number : (s : StateStatus) → eqb (statusNumber s) 0 ≡ isCalibrated s
@@ -159,6 +177,24 @@ state-row C total x base u o is-u is-o l m e t f a long is-t is-f b =
     (rw (is-u, is-o) at is-t)
     (rw is-u at is-f)
     (rw (is-u, is-o) at b)
+
+-- row x of a state with this mark, by its parts in the order of the code
+pub row-by-parts : (n least mark x o : ℕ) (stay moved : List ℕ) (totals : List ℤ) {l m e : List Float} {t f : Float}
+    → mark ≡ statusNumber (markOf (cellsOf n least stay moved) x)
+    → o ≡ observations (cellsOf n 0 stay moved) x
+    → Filled (x * width n) n (λ k. let q = part (eqb mark 0) (pos (cellOf n stay x k)) o in cond (eqb x k) (sub binary64 one q) (neg q)) l m
+    → x * width n + width n ≤ length m
+    → t ≡ part (eqb mark 0) (totalOf totals x) o
+    → f ≡ cond (eqb mark 0) posZero one
+    → Filled (x * width n + (n + 2)) n (λ k. part (eqb mark 0) (pos (cellOf n moved x k)) o)
+    (set (set m (x * width n + n) t) (x * width n + (n + 1)) f) e
+    → Filled (x * width n) (width n) (systemOf (cellsOf n least stay moved) (totalOf totals) x) l e
+row-by-parts n least mark x o stay moved totals {l} {m} {e} {t} {f} marked is-o left long is-t is-f right =
+    let C = cellsOf n least stay moved in
+    state-row C (totalOf totals) x (x * width n) (eqb mark 0) o
+    (ap (λ m. eqb m 0) marked ∙ used-number (markOf C x))
+    (is-o ∙ sym (any-least n least stay moved x))
+    l m e t f left (omega arith) is-t is-f right
 
 -- ---- rows one after another
 

@@ -1,7 +1,7 @@
 -- What a pair does to cells and totals, at one place or at two, and the room that it leaves.
 use Prim.Native.Nat.{ℕ, zero, suc, _+_, _-_, _*_, _^_, _≤_, _<_}
 use mathlib.Core.Path.{_≡_, refl, sym, ap, _∙_, subst}
-use mathlib.Core.Bool.{Bool, true, false, not, _&&_, _||_, or-self, Bool·not-not}
+use mathlib.Core.Bool.{Bool, true, false, not, cond, _&&_, _||_, or-self, Bool·not-not}
 use mathlib.Core.Logic.{_≢_, ⊎-elim}
 use mathlib.Core.List.{List}
 use native.Mathlib.Omega.{arith}
@@ -12,11 +12,13 @@ use lib.IntN.{ℤ, pos, negsuc, negℤ, natAbs, _+ℤ_, +ℤ-negℤ-cancel, +ℤ
 use lib.Seq.{getD-set-same, lt-length-set}
 use borrow.Author.Tests.{le-ltb, lt-ltb, ltb-true, ltb-false, not-false, leb-true, leb-false}
 use Rattle.basics.proofs.Tests.{zero-not-one, neither, fails, le-or-lt}
+use Rattle.basics.proofs.Lists.{flat-below}
 use Rattle.basics.proofs.Stores.{at-same, at-first, at-second}
 use Rattle.signed.specs.Totals.{cellLimit, change, within, addAt}
 use Rattle.signed.proofs.Sums.{within-size, size-part, size-neg, distance-down, distance-up}
-use Rattle.tally.specs.Entries.{Entry, Tables, tables, isZero, bump, enterBoth, overCell, overTotal, touchedOver}
-use Rattle.tally.specs.Fits.{cellsOver, totalsOver}
+use Rattle.tally.specs.Entries.{Tables, tables, isZero, bump, bumpIf, enterBoth, forthOf, backOf, overCell, overTotal, touchedOver}
+use Rattle.tally.specs.Fits.{Placed, cellsOver, totalsOver}
+use Rattle.tally.specs.declared.PairEntry.{PairEntry}
 
 -- none over is each within
 pub not-or : (a b : Bool) → not (a || b) ≡ (not a && not b)
@@ -162,41 +164,47 @@ zero-neg (pos zero) = refl
 zero-neg (pos (suc n)) = refl
 zero-neg (negsuc n) = refl
 
--- a pair and its mirror, whose change is the negated: into one table, by whether the change is 0
-module _ (n i j u v : ℕ) (d : ℤ) (t : Tables) where
-  abbrev one : Entry
-  one = record { from = i; to = j; change = d }
+-- ---- a pair and its mirror, their two cells at a and b: both go into one table, stay where the change is 0 and moved where it is not
 
-  abbrev two : Entry
-  two = record { from = u; to = v; change = negℤ d }
+module _ (n : ℕ) (e : PairEntry) (a b : ℕ) (a-is : a ≡ e .from * n + e .to) (b-is : b ≡ e .«mirror_from» * n + e .«mirror_to») where
+  -- the cells lie in a table of n × n
+  pub cells-below : {x y z : ℕ} → Placed n e x y z → (l : List ℕ) → length l ≡ n * n → (a < length l) × (b < length l)
+  cells-below p l f =
+      rw (a-is, b-is, f) (
+        flat-below n (e .from) (e .to) (p .to-below) n (p .from-below),
+        flat-below n (e .«mirror_from») (e .«mirror_to») (p .mirror-to-below) n (p .mirror-from-below),
+      )
 
-  pub both-stay : isZero d ≡ true
-      → enterBoth n one two t ≡ tables (bump (bump (t .stay) (i * n + j)) (u * n + v)) (t .moved) (addAt (addAt (t .totals) i d) u (negℤ d))
-  both-stay z = rw (zero-neg d, z)
+  module _ (s m : List ℕ) (t : List ℤ) where
+    abbrev d : ℤ
+    d = change (e .«mid_from») (e .«mid_to»)
 
-  pub both-moved : isZero d ≡ false
-      → enterBoth n one two t ≡ tables (t .stay) (bump (bump (t .moved) (i * n + j)) (u * n + v)) (addAt (addAt (t .totals) i d) u (negℤ d))
-  both-moved z = rw (zero-neg d, z)
+    abbrev after : Tables
+    after = enterBoth n (forthOf e) (backOf e) (tables s m t)
 
-  pub touched-stay : isZero d ≡ true
-      → touchedOver n one two (enterBoth n one two t) ≡ (cellsOver (t .stay) (i * n + j) (u * n + v) || totalsOver (t .totals) i u d)
-  touched-stay z = rw (zero-neg d, z)
+    -- what both touch is over where the two cells of that table or the two totals are
+    over-is : (z : Bool) → isZero d ≡ z
+        → touchedOver n (forthOf e) (backOf e) after ≡ (cellsOver (cond z s m) a b || totalsOver t (e .from) (e .«mirror_from») d)
+    over-is true f = rw (zero-neg d, f, a-is, b-is)
+    over-is false f = rw (zero-neg d, f, a-is, b-is)
 
-  pub touched-moved : isZero d ≡ false
-      → touchedOver n one two (enterBoth n one two t) ≡ (cellsOver (t .moved) (i * n + j) (u * n + v) || totalsOver (t .totals) i u d)
-  touched-moved z = rw (zero-neg d, z)
+    -- so it is within the limits where those are
+    pub pair-within : (z : Bool) → isZero d ≡ z → (x y : Bool) → x ≡ not (cellsOver (cond z s m) a b)
+        → y ≡ not (totalsOver t (e .from) (e .«mirror_from») d) → (x && y) ≡ not (touchedOver n (forthOf e) (backOf e) after)
+    pair-within z f x y g h = rw (over-is z f, not-or, g, h)
 
-  -- where nothing that both touch is over, neither table is
-  module _ (f : touchedOver n one two (enterBoth n one two t) ≡ false) where
-    pub stay-clear : isZero d ≡ true → cellsOver (t .stay) (i * n + j) (u * n + v) ≡ false
-    stay-clear z = neither _ (totalsOver (t .totals) i u d) (sym (touched-stay z) ∙ f) .0
+    -- where nothing that both touch is over, neither those cells nor the totals are
+    module _ (clear : touchedOver n (forthOf e) (backOf e) after ≡ false) where
+      pub cells-clear : {x y w : ℕ} → Placed n e x y w → (z : Bool) → isZero d ≡ z → length (cond z s m) ≡ n * n
+          → (a < length (cond z s m)) × (b < length (cond z s m)) × (cellsOver (cond z s m) a b ≡ false)
+      cells-clear p z f g =
+          let below = cells-below p (cond z s m) g in
+          (below .0, below .1, neither _ (totalsOver t (e .from) (e .«mirror_from») d) (sym (over-is z f) ∙ clear) .0)
 
-    pub moved-clear : isZero d ≡ false → cellsOver (t .moved) (i * n + j) (u * n + v) ≡ false
-    moved-clear z = neither _ (totalsOver (t .totals) i u d) (sym (touched-moved z) ∙ f) .0
+      pub totals-clear : totalsOver t (e .from) (e .«mirror_from») d ≡ false
+      totals-clear = neither (cellsOver (cond (isZero d) s m) a b) _ (sym (over-is (isZero d) refl) ∙ clear) .1
 
-    pub totals-clear : totalsOver (t .totals) i u d ≡ false
-    totals-clear = go (isZero d) refl
-      where
-        go : (b : Bool) → isZero d ≡ b → totalsOver (t .totals) i u d ≡ false
-        go true z = neither (cellsOver (t .stay) (i * n + j) (u * n + v)) _ (sym (touched-stay z) ∙ f) .1
-        go false z = neither (cellsOver (t .moved) (i * n + j) (u * n + v)) _ (sym (touched-moved z) ∙ f) .1
+    -- the tables with both entries in
+    pub pair-entered : (z : Bool) → isZero d ≡ z → (s′ m′ : List ℕ) (t′ : List ℤ) → s′ ≡ bumpIf z (bumpIf z s a) b
+        → m′ ≡ bumpIf (not z) (bumpIf (not z) m a) b → t′ ≡ addAt (addAt t (e .from) d) (e .«mirror_from») (negℤ d) → tables s′ m′ t′ ≡ after
+    pair-entered z f s′ m′ t′ u v w = rw (u, v, w, zero-neg d, f, a-is, b-is)

@@ -1,18 +1,19 @@
 -- From the numbers of a text to the answer of `read_text`.
 use Prim.Native.Nat.{ℕ, zero, suc, _+_, _-_, _/_, _%_, _≤_, _<_}
 use mathlib.Core.Path.{_≡_, refl, sym, _∙_, ap}
-use mathlib.Core.Bool.{Bool, true, false, cond, _&&_}
+use mathlib.Core.Bool.{Bool, true, false, cond, not, _&&_}
 use mathlib.Core.List.{List, [], _∷_}
 use native.Mathlib.Omega.{arith}
 use lib.Dec.{leb, eqb}
 use lib.ListN.{length, getD, drop, set, length-set}
 use lib.Seq.{sets, getD-set-same}
-use borrow.Author.Tests.{leb-true}
+use borrow.Author.Tests.{leb-true, not-true, not-false}
 use Rattle.basics.proofs.Tests.{zero-not-one, both}
 use Rattle.basics.proofs.Stores.{sets-below}
-use Rattle.text.specs.Reading.{begin, ended, fine, numbersOf, wholeLines, fewStates, requestOf, Reading, asked, bad, readNumbers, readText, answerOf, recordingBy, ReadBy}
+use Rattle.text.specs.Reading.{begin, ended, fine, NumbersBy, wholeLines, fewStates, requestOf, Reading, asked, bad, readNumbers, readText, answerOf, recordingBy, ReadBy}
 use Rattle.text.specs.declared.Read.{Read}
 use Rattle.text.specs.declared.Read.the-variants as Read
+use Rattle.text.specs.declared.Numbers.{Numbers}
 use Rattle.text.specs.declared.Numbers.the-variants.{All, Broken}
 
 -- stores may run over the end: what lies within can be read
@@ -35,6 +36,10 @@ front vs l k h r =
 pub whole-least : (m : ℕ) → wholeLines m ≡ true → 7 ≤ m
 whole-least m e = leb-true 7 m (both (leb 7 m) (eqb ((m - 7) % 5) 0 && leb ((m - 7) / 5) 1000) e .0)
 
+-- so where both tests passed, line 1 is there
+pub passed-least : {n : ℕ} {whole : Bool} (few : Bool) → whole ≡ wholeLines n → not (whole && few) ≡ false → 7 ≤ n
+passed-least {n} {whole} few u e = whole-least n (sym u ∙ both whole few (not-false (whole && few) e) .0)
+
 module _ (f : Bool) (m : ℕ) where
   pub all-told : (n : ℕ) → All n ≡ cond f (All m) Broken → (f ≡ true) × (n ≡ m)
   all-told n e = go f refl e
@@ -55,33 +60,36 @@ read-by : (g h : Reading) (before : List ℕ) (r : Read) (left : List ℕ) → g
 read-by g h before r left e f k =
     record { answer = f ∙ sym (ap answerOf e); recording = k ∙ sym (ap (λ (x : Reading). recordingBy x before) e) }
 
-module _ (b before : List ℕ) where
-  pub read-broken : Broken ≡ numbersOf begin b → ReadBy (readText b) before Read.Bad before
+-- `line1` is what the first call of `read_numbers` says, with which the text is read from number 0 on
+module _ (b before : List ℕ) {l head : List ℕ} {r : Numbers} (line1 : NumbersBy b 0 l r head) where
+  -- a byte may not stand where it does
+  pub read-broken : r ≡ Broken → ReadBy (readText b) before Read.Bad before
   unfolding readText
   read-broken e =
       read-by (readText b) bad before Read.Bad before
-      (ap (λ (x : Bool). cond x (readNumbers (ended begin b)) bad) (broken-told (fine begin b) (0 + length (ended begin b)) e))
+      (ap (λ (x : Bool). cond x (readNumbers (ended begin b)) bad)
+      (broken-told (fine begin b) (0 + length (ended begin b)) (sym e ∙ line1 .answer)))
       refl
       refl
 
-  -- with the numbers of line 1 in front of seven words
-  module _ (l head : List ℕ) (n : ℕ) (seven : length l ≡ 7) (stored : head ≡ sets l 0 (drop 0 (ended begin b))) (told : All n ≡ numbersOf begin b) where
-    good : fine begin b ≡ true
-    good = all-told (fine begin b) (0 + length (ended begin b)) n told .0
+  -- n numbers, of which as many as there are stand in front of seven words
+  module _ {n : ℕ} (found : r ≡ All n) (seven : length l ≡ 7) where
+    told : (fine begin b ≡ true) × (n ≡ 0 + length (ended begin b))
+    told = all-told (fine begin b) (0 + length (ended begin b)) n (sym found ∙ line1 .answer)
 
     long : n ≡ length (ended begin b)
-    long = let e = all-told (fine begin b) (0 + length (ended begin b)) n told .1 in omega arith
+    long = let e = told .1 in omega arith
 
     at : (k : ℕ) → k < 7 → 7 ≤ n → getD head k 0 ≡ getD (ended begin b) k 0
     at k h g =
-        ap (λ (x : List ℕ). getD x k 0) stored
+        ap (λ (x : List ℕ). getD x k 0) (line1 .stored)
         ∙ front (ended begin b) l k (omega (arith, long)) (omega arith)
 
     reads : (x : Bool) → (wholeLines (length (ended begin b)) && fewStates (getD (ended begin b) 1 0) (getD (ended begin b) 2 0)) ≡ x
         → readText b ≡ cond x (asked (requestOf (ended begin b)) (drop 7 (ended begin b))) bad
     unfolding readText
     reads x e =
-        ap (λ (y : Bool). cond y (readNumbers (ended begin b)) bad) good
+        ap (λ (y : Bool). cond y (readNumbers (ended begin b)) bad) (told .0)
         ∙ ap (λ (y : Bool). cond y (asked (requestOf (ended begin b)) (drop 7 (ended begin b))) bad) e
 
     -- the test of the code is the test of the definition
@@ -100,34 +108,40 @@ module _ (b before : List ℕ) where
             ap (λ (x : Bool). x && fewStates (getD head 1 0) (getD head 2 0)) e
             ∙ sym (ap (λ (x : Bool). x && fewStates (getD (ended begin b) 1 0) (getD (ended begin b) 2 0)) (ap wholeLines (sym long) ∙ e))
 
-    pub read-refused : (wholeLines n && fewStates (getD head 1 0) (getD head 2 0)) ≡ false → ReadBy (readText b) before Read.Bad before
-    read-refused e = read-by (readText b) bad before Read.Bad before (reads false (sym tested ∙ e)) refl refl
+    -- with the answers of `whole_lines` and `few_states`
+    module _ {whole few : Bool} (u : whole ≡ wholeLines n) (v : few ≡ fewStates (getD head 1 0) (getD head 2 0)) where
+      test-is : (whole && few) ≡ (wholeLines (length (ended begin b)) && fewStates (getD (ended begin b) 1 0) (getD (ended begin b) 2 0))
+      test-is = (λ i. u i && v i) ∙ tested
 
-    pub read-asked : (left : List ℕ) → (wholeLines n && fewStates (getD head 1 0) (getD head 2 0)) ≡ true → left ≡ sets before 0 (drop 7 (ended begin b))
-        → ReadBy (readText b) before
-        (Read.Request
-        (record {
-          tick = getD head 0 0;
-          buckets = getD head 1 0;
-          «spread_states» = getD head 2 0;
-          least = getD head 3 0;
-          gap = getD head 4 0;
-          start = getD head 5 0;
-          end = getD head 6 0;
-          quotes = (n - 7) / 5;
-        }))
-        left
-    read-asked left e f =
-        let h = whole-least n (both (wholeLines n) (fewStates (getD head 1 0) (getD head 2 0)) e .0) in
-        let p0 = at 0 (omega arith) h in
-        let p1 = at 1 (omega arith) h in
-        let p2 = at 2 (omega arith) h in
-        let p3 = at 3 (omega arith) h in
-        let p4 = at 4 (omega arith) h in
-        let p5 = at 5 (omega arith) h in
-        let p6 = at 6 (omega arith) h in
-        read-by (readText b) (asked (requestOf (ended begin b)) (drop 7 (ended begin b))) before _ left
-        (reads true (sym tested ∙ e))
-        (λ i. Read.Request
-        (record { tick = p0 i; buckets = p1 i; «spread_states» = p2 i; least = p3 i; gap = p4 i; start = p5 i; end = p6 i; quotes = (long i - 7) / 5 }))
-        f
+      pub read-refused : not (whole && few) ≡ true → ReadBy (readText b) before Read.Bad before
+      read-refused e = read-by (readText b) bad before Read.Bad before (reads false (sym test-is ∙ not-true (whole && few) e)) refl refl
+
+      -- the second call of `read_numbers` stores the words of the quotes
+      pub read-asked : {left : List ℕ} {s : Numbers} → not (whole && few) ≡ false → NumbersBy b 7 before s left
+          → ReadBy (readText b) before
+          (Read.Request
+          (record {
+            tick = getD head 0 0;
+            buckets = getD head 1 0;
+            «spread_states» = getD head 2 0;
+            least = getD head 3 0;
+            gap = getD head 4 0;
+            start = getD head 5 0;
+            end = getD head 6 0;
+            quotes = (n - 7) / 5;
+          }))
+          left
+      read-asked {left} e quotes =
+          let h = passed-least few u e in
+          let p0 = at 0 (omega arith) h in
+          let p1 = at 1 (omega arith) h in
+          let p2 = at 2 (omega arith) h in
+          let p3 = at 3 (omega arith) h in
+          let p4 = at 4 (omega arith) h in
+          let p5 = at 5 (omega arith) h in
+          let p6 = at 6 (omega arith) h in
+          read-by (readText b) (asked (requestOf (ended begin b)) (drop 7 (ended begin b))) before _ left
+          (reads true (sym test-is ∙ not-false (whole && few) e))
+          (λ i. Read.Request
+          (record { tick = p0 i; buckets = p1 i; «spread_states» = p2 i; least = p3 i; gap = p4 i; start = p5 i; end = p6 i; quotes = (long i - 7) / 5 }))
+          (quotes .stored)

@@ -10,7 +10,7 @@ use borrow.Author.Tests.{lt-ltb, le-ltb}
 use Rattle.basics.proofs.Stores.{sets-append}
 use Rattle.text.specs.Text.{decimal}
 use Rattle.text.specs.Written.{hexDigit, hexDigits, hex16, Put}
-use Rattle.text.proofs.Decimals.{decimal-one, decimal-more}
+use Rattle.text.proofs.Decimals.{decimal-one, decimal-more, length-more}
 
 -- the output keeps its length
 pub put-length : (before : List ℕ) (at : ℕ) (bytes : List ℕ) (next : ℕ) (left : List ℕ) → Put before at bytes next left → length left ≡ length before
@@ -48,6 +48,14 @@ put-more before mid at j n h p =
 pub length-one : (n : ℕ) → n < 10 → length (decimal n) ≡ 1
 length-one n h = ap length (decimal-one n h)
 
+-- there is room for one digit
+pub room-digit : (before : List ℕ) (at n : ℕ) → n < 10 → at + length (decimal n) ≤ length before → at < length before
+room-digit before at n h r = omega (arith, length-one n h)
+
+-- after the digits of n / 10 there is room for one digit more
+pub room-more : {before mid : List ℕ} {at j n : ℕ} → 10 ≤ n → at + length (decimal n) ≤ length before → Put before at (decimal (n / 10)) j mid → j < length mid
+room-more {before} {mid} {at} {j} {n} h r p = omega (arith, length-more n h, p .next-is, put-length before at (decimal (n / 10)) j mid p)
+
 -- ---- hexadecimal digits
 
 pub hex-figure : (d : ℕ) → d < 10 → 48 + d ≡ hexDigit d
@@ -67,12 +75,17 @@ length-hex16 w = length-hex 16 w
 pub put-none : (before : List ℕ) (at w k : ℕ) → k ≡ 0 → Put before at (hexDigits k w) at before
 put-none before at w k e = subst (λ (j : ℕ). Put before at (hexDigits j w) at before) (sym e) (record { next-is = omega arith; stored = refl })
 
-pub put-hex-more : (before mid : List ℕ) (at j w k : ℕ) → 0 < k → Put before at (hexDigits (k - 1) (w / 16)) j mid
-    → Put before at (hexDigits k w) (j + 1) (set mid j (hexDigit (w % 16)))
-put-hex-more before mid at j w k h p =
+-- after the first k − 1 digits there is room for one more
+pub room-hex : {before mid : List ℕ} {at j : ℕ} (w k : ℕ) → 0 < k → at + k ≤ length before → Put before at (hexDigits (k - 1) (w / 16)) j mid → j < length mid
+room-hex {before} {mid} {at} {j} w k h r p =
+    omega (arith, length-hex (k - 1) (w / 16), p .next-is, put-length before at (hexDigits (k - 1) (w / 16)) j mid p)
+
+pub put-hex-more : {before mid : List ℕ} {at j d : ℕ} (w k : ℕ) → 0 < k → Put before at (hexDigits (k - 1) (w / 16)) j mid → d ≡ hexDigit (w % 16)
+    → Put before at (hexDigits k w) (j + 1) (set mid j d)
+put-hex-more {before} {mid} {at} {j} {d} w k h p f =
     let e : suc (k - 1) ≡ k = omega arith in
-    subst (λ (m : ℕ). Put before at (hexDigits m w) (j + 1) (set mid j (hexDigit (w % 16)))) e
-    (put-last before mid at j (hexDigit (w % 16)) (hexDigits (k - 1) (w / 16)) p)
+    rw f (subst (λ (m : ℕ). Put before at (hexDigits m w) (j + 1) (set mid j (hexDigit (w % 16)))) e
+    (put-last before mid at j (hexDigit (w % 16)) (hexDigits (k - 1) (w / 16)) p))
 
 -- ---- given bytes
 

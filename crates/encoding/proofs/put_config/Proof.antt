@@ -1,27 +1,11 @@
+-- `encoding::put_config` meets its contract: five words are written at 0 to 4 of a slice of five, so that nothing of the old ones is left (`config-put`). A
+-- write keeps the length, which is what the writes after it ask.
 use Rattle.encoding.proofs.Laws.{config-put}
 use lib.ListN.{length-set}
 use native.Mathlib.Omega.{arith}
 use borrow.Author.Tests.{eqb-true}
 use Rattle.encoding.proofs.put_config.Statement.{statement}
 use Rattle.encoding.proofs.put_config.Tie as tie
-
-slice-write-w : tie.Need-slice-write-w
-slice-write-w c = omega (arith, eqb-true)
-
-slice-write-w-2 : tie.Need-slice-write-w-2
-slice-write-w-2 c = simp length-set (omega (arith, eqb-true))
-
-slice-write-w-3 : tie.Need-slice-write-w-3
-slice-write-w-3 c = simp length-set (omega (arith, eqb-true))
-
-slice-write-w-4 : tie.Need-slice-write-w-4
-slice-write-w-4 c = simp length-set (omega (arith, eqb-true))
-
-slice-write-w-5 : tie.Need-slice-write-w-5
-slice-write-w-5 c = simp length-set (omega (arith, eqb-true))
-
-same-length : tie.Need-same-length
-same-length c = simp length-set
 
 returns : tie.Need-returns
 returns c =
@@ -32,10 +16,10 @@ pub put-config-spec : {M : Type 1} → statement M
 put-config-spec =
     tie.close
     (tie.spec
-    slice-write-w
-    slice-write-w-2
-    slice-write-w-3
-    slice-write-w-4
-    slice-write-w-5
-    same-length
+    (λ c. omega (arith, eqb-true))
+    (λ c. simp length-set (omega (arith, eqb-true)))
+    (λ c. simp length-set (omega (arith, eqb-true)))
+    (λ c. simp length-set (omega (arith, eqb-true)))
+    (λ c. simp length-set (omega (arith, eqb-true)))
+    (λ c. simp length-set)
     returns)

@@ -1,3 +1,5 @@
+-- `estimates::adjust` meets its contract: half the difference times half a tick, which is the definition once the call's float is known; the tick is within its
+-- limit.
 use mathlib.Core.Path.{ap}
 use borrow.Author.Needs.{needs}
 use lib.Ieee.{binary64, sub, mul, div}
@@ -6,12 +8,9 @@ use Rattle.estimates.specs.Estimates.{adjusted}
 use Rattle.estimates.proofs.adjust.Statement.{statement}
 use Rattle.estimates.proofs.adjust.Tie as tie
 
-half-tick-requires : tie.Need-half-tick-requires
-half-tick-requires c κs = search needs
-
 returns : tie.Need-returns
 unfolding adjusted
 returns c = ap (mul binary64 (div binary64 (sub binary64 (c .before .args .own) (c .before .args .mirrored)) two)) (c .half-tick .ensures)
 
 pub adjust-spec : {M : Type 1} → statement M
-adjust-spec = tie.close (tie.spec half-tick-requires returns)
+adjust-spec = tie.close (tie.spec (λ c κs. search needs) returns)

@@ -1,3 +1,4 @@
+-- `estimates::is_small` meets its contract: the size, which the call gives, compared with 2^96, which is the definition.
 use mathlib.Core.Path.{ap}
 use borrow.Author.Needs.{needs}
 use lib.Ieee.{lt}
@@ -5,11 +6,8 @@ use Rattle.estimates.specs.Estimates.{big}
 use Rattle.estimates.proofs.is_small.Statement.{statement}
 use Rattle.estimates.proofs.is_small.Tie as tie
 
-abs-requires : tie.Need-abs-requires
-abs-requires c κs = search needs
-
 returns : tie.Need-returns
 returns c = ap (λ a. lt a big) (c .abs .ensures)
 
 pub is-small-spec : {M : Type 1} → statement M
-is-small-spec = tie.close (tie.spec abs-requires returns)
+is-small-spec = tie.close (tie.spec (λ c κs. search needs) returns)

@@ -1,3 +1,5 @@
+-- `estimates::judge_status` meets its contract: three ways out, by the mark's number. Not 0: the mark stays (`judged-other`). 0 and the size exceeds half the
+-- spread: 3 (`judged-outside`); else 0 (`judged-inside`). Only Calibrated has the number 0, so the laws have one case to show. No loop.
 use mathlib.Core.Path.{sym, ap, _∙_}
 use borrow.Author.Needs.{needs}
 use lib.Ieee.{lt}
@@ -7,9 +9,6 @@ use Rattle.estimates.proofs.judge_status.Tie as tie
 
 returns : tie.Need-returns
 returns c m e = e ∙ judged-other m (c .before .args .half) (c .before .args .adjustment) (λ h. c .if1 .taken (e ∙ h))
-
-abs-requires : tie.Need-abs-requires
-abs-requires c κs = search needs
 
 returns-2 : tie.Need-returns-2
 returns-2 c m e =
@@ -22,4 +21,4 @@ returns-3 c m e =
     judged-inside (a .half) (a .adjustment) m (sym e ∙ c .before .before .if1 .left) (sym (ap (lt (a .half)) (c .before .abs .ensures)) ∙ c .if2 .left)
 
 pub judge-status-spec : {M : Type 1} → statement M
-judge-status-spec = tie.close (tie.spec returns abs-requires returns-2 returns-3)
+judge-status-spec = tie.close (tie.spec returns (λ c κs. search needs) returns-2 returns-3)

@@ -1,3 +1,5 @@
+-- `estimates::share_of` meets its contract: two ways out, by the mark's number. 0 is Calibrated: the share (`share-used`); any other is a fallback state: 1
+-- (`share-fallback`).
 use mathlib.Core.Path.{sym, _∙_}
 use Rattle.estimates.proofs.Marked.{share-used, share-fallback}
 use Rattle.estimates.proofs.share_of.Statement.{statement}

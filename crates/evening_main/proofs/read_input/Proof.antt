@@ -1,9 +1,12 @@
+-- `evening_main::read_input` meets its contract. Invariant: `at` is within the room, and the room is as long as it was. The measure is the room behind `at`: a
+-- round that goes on has read a byte or more, and no more than there is room for (`bytes-left`). The ways out: a failed read, the end of the input, a full
+-- room.
 use Prim.Native.Nat.{_-_, _≤_}
 use mathlib.Core.Path.{_≡_}
 use native.Mathlib.Omega.{arith}
 use borrow.Author.Needs.{needs}
-use lib.ListN.{length, length-take, length-drop}
-use Rattle.evening_main.proofs.Inputs.{bytes-most}
+use lib.ListN.{length}
+use Rattle.evening_main.proofs.Inputs.{bytes-left}
 use Rattle.evening_main.proofs.read_input.Statement.{statement}
 use Rattle.evening_main.proofs.read_input.Tie as tie
 
@@ -13,53 +16,21 @@ Inv-loop room₀ at₀ room at = (at ≤ length room) × (length room ≡ length
 abbrev μ-loop : tie.MeasureT-loop
 μ-loop room₀ at₀ room at = length room - at
 
-loop-holds : tie.Need-loop-holds Inv-loop μ-loop
-loop-holds c = search needs
-
-sub-read-some : tie.Need-sub-read-some Inv-loop μ-loop
-sub-read-some c = search needs
-
-part-read-some-start : tie.Need-part-read-some-start Inv-loop μ-loop
-part-read-some-start c = search needs
-
-part-read-some-end : tie.Need-part-read-some-end Inv-loop μ-loop
-part-read-some-end c = search needs
-
-read-some-requires : tie.Need-read-some-requires Inv-loop μ-loop
-read-some-requires c κs = search needs
-
-enum-known-more : tie.Need-enum-known-more Inv-loop μ-loop
-enum-known-more c = search needs
-
-enum-told : tie.Need-enum-told Inv-loop μ-loop
-enum-told c = search needs
-
-same-length : tie.Need-same-length Inv-loop μ-loop
-same-length c = search needs
-
-returns : tie.Need-returns Inv-loop μ-loop
-returns c = search needs
-
-same-length-2 : tie.Need-same-length-2 Inv-loop μ-loop
-same-length-2 c = search needs
-
-returns-2 : tie.Need-returns-2 Inv-loop μ-loop
-returns-2 c = search needs
-
 add-at : tie.Need-add-at Inv-loop μ-loop
-add-at c = let w = simp (length-take, length-drop) at (bytes-most _ (c .before .before .before .before .before .before .read-some .ensures) (c .before .before .more .given .1)) in omega arith
-
-loop-less : tie.Need-loop-less Inv-loop μ-loop
-loop-less c = search needs
+add-at c =
+    let at-read-some : tie.After-read-some Inv-loop μ-loop = search in
+    let at-loop : tie.At-loop Inv-loop μ-loop = search in
+    let l = at-loop .loop in
+    omega (arith, bytes-left (l .room) (l .at) (l .inv .0) (at-read-some .read-some .ensures) (c .before .before .more .given .1))
 
 loop-again : tie.Need-loop-again Inv-loop μ-loop
-loop-again c = let w = simp (length-take, length-drop) at (bytes-most _ (c .before .before .before .before .before .before .read-some .ensures) (c .before .before .more .given .1)) in (omega (arith, c .before .before .before .before .before .room .given), omega (arith, c .before .before .before .before .before .room .given))
-
-same-length-3 : tie.Need-same-length-3 Inv-loop μ-loop
-same-length-3 c = search needs
-
-returns-3 : tie.Need-returns-3 Inv-loop μ-loop
-returns-3 c = search needs
+loop-again c =
+    let at-room : tie.After-room Inv-loop μ-loop = search in
+    let at-read-some : tie.After-read-some Inv-loop μ-loop = search in
+    let at-loop : tie.At-loop Inv-loop μ-loop = search in
+    let l = at-loop .loop in
+    let w = bytes-left (l .room) (l .at) (l .inv .0) (at-read-some .read-some .ensures) (c .before .before .more .given .1) in
+    (omega (arith, at-room .room .given), omega (arith, at-room .room .given))
 
 pub read-input-spec : {M : Type 1} → statement M
 read-input-spec =
@@ -67,19 +38,19 @@ read-input-spec =
     (tie.spec
     Inv-loop
     μ-loop
-    loop-holds
-    sub-read-some
-    part-read-some-start
-    part-read-some-end
-    read-some-requires
-    enum-known-more
-    enum-told
-    same-length
-    returns
-    same-length-2
-    returns-2
+    (λ c. search needs)
+    (λ c. search needs)
+    (λ c. search needs)
+    (λ c. search needs)
+    (λ c κs. search needs)
+    (λ c. search needs)
+    (λ c. search needs)
+    (λ c. search needs)
+    (λ c. search needs)
+    (λ c. search needs)
+    (λ c. search needs)
     add-at
-    loop-less
+    (λ c. search needs)
     loop-again
-    same-length-3
-    returns-3)
+    (λ c. search needs)
+    (λ c. search needs))

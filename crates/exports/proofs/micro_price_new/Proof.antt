@@ -1,79 +1,61 @@
-use Rattle.calibrator.specs.Record.{ended}
+-- `exports::micro_price_new` meets its contract. The ways out: words that are not encoded are answered 100 and nothing is written, the second case of
+-- `newWords`; encoded words tell the record and the configuration, and what `calibrator::inner::new` leaves of them goes back as words and a number
+-- (`new-words`). The calls after the test ask of the words only what the test says (`known`). No loop.
 use mathlib.Core.Path.{sym, _∙_}
 use borrow.Author.Tests.{not-true, not-false}
-use Rattle.calibrator.specs.Observe.{made}
 use Rattle.encoding.proofs.Laws.{Encoded, encoded-by}
-use Rattle.exports.proofs.CountingWords.{outcome-words}
+use Rattle.exports.proofs.CountingWords.{new-words}
 use borrow.Author.Needs.{needs}
 use Rattle.exports.proofs.micro_price_new.Statement.{statement}
 use Rattle.exports.proofs.micro_price_new.Tie as tie
 
-is-encoded-requires : tie.Need-is-encoded-requires
-is-encoded-requires c κs = search needs
-
-same-length : tie.Need-same-length
-same-length c = search needs
-
 returns : tie.Need-returns
-returns c = let e = sym (c .before .is-encoded .ensures) ∙ not-true _ (c .if1 .taken) in rw e
+returns c = rw (sym (c .before .is-encoded .ensures) ∙ not-true _ (c .if1 .taken))
 
 -- the words are encoded
-known : (c : tie.Else1) → Encoded (c .before .before .before .before .before .before .before .args .config .now) (c .before .before .before .before .before .before .before .args .rec .now)
+known : (c : tie.Else1) → let at-start : tie.Start = search in Encoded (at-start .args .config .now) (at-start .args .rec .now)
 known c = encoded-by _ _ _ (c .before .is-encoded .ensures) (not-false _ (c .if1 .left))
 
 record-of-requires : tie.Need-record-of-requires
 record-of-requires c κs = known (c .before) .rec
 
 config-of-requires : tie.Need-config-of-requires
-config-of-requires c κs = known (c .before .before .before .before .before) .config
-
-new-requires : tie.Need-new-requires
-new-requires c κs = search needs
+config-of-requires c κs =
+    let at-else1 : tie.Else1 = search in
+    known at-else1 .config
 
 put-record-requires : tie.Need-put-record-requires
-put-record-requires c κs = known (c .before .before .before .before .before .before .before .before .before .before .before .before .before) .ten
-
-check-number-requires : tie.Need-check-number-requires
-check-number-requires c κs = search needs
-
-same-length-2 : tie.Need-same-length-2
-same-length-2 c = search needs
-
-same-length-3 : tie.Need-same-length-3
-same-length-3 c = search needs
-
-same-length-4 : tie.Need-same-length-4
-same-length-4 c = search needs
-
-same-length-5 : tie.Need-same-length-5
-same-length-5 c = search needs
+put-record-requires c κs =
+    let at-else1 : tie.Else1 = search in
+    known at-else1 .ten
 
 returns-2 : tie.Need-returns-2
 returns-2 c =
-    let called = c .before .before .before .before .before .before .before .before .before .before in
-    let configured = called .before in
-    let told = configured .before .before .before .before in
-    let branch = told .before .before in
-    let a = branch .before .before .before .before .before .before .before .args in
-    let o = called .new in
-    outcome-words (a .config .now) (a .rec .now) (a .stay .now) (a .moved .now) (a .move-half-ticks .now) (known branch .is)
-    _ (told .record-of .ensures) _ (configured .config-of .ensures)
-    made (ended (o .result .answer) (o .result .next) (o .last .1 .0) (o .last .1 .1 .0) (o .last .1 .1 .1 .0)) (o .ensures) _ (c .check-number .ensures) _ (c .before .before .before .put-record .ensures)
+    let at-put-record : tie.After-put-record = search in
+    let at-new : tie.After-new = search in
+    let at-config-of : tie.After-config-of = search in
+    let at-record-of : tie.After-record-of = search in
+    let at-else1 : tie.Else1 = search in
+    let at-slice-known2 : tie.After-slice-known2 = search in
+    let at-start : tie.Start = search in
+    let a = at-start .args in
+    new-words (a .config .now) (a .rec .now) (a .stay .now) (a .moved .now) (a .move-half-ticks .now) (known at-else1)
+    (at-record-of .record-of .ensures) (at-config-of .config-of .ensures) (at-new .new .ensures) (at-put-record .put-record .ensures) (c .check-number .ensures)
 
 pub micro-price-new-spec : {M : Type 1} → statement M
 micro-price-new-spec =
     tie.close
     (tie.spec
-    is-encoded-requires
-    same-length
+    (λ c κs. search needs)
+    (λ c. search needs)
     returns
     record-of-requires
     config-of-requires
-    new-requires
+    (λ c κs. search needs)
     put-record-requires
-    check-number-requires
-    same-length-2
-    same-length-3
-    same-length-4
-    same-length-5
+    (λ c κs. search needs)
+    (λ c. search needs)
+    (λ c. search needs)
+    (λ c. search needs)
+    (λ c. search needs)
     returns-2)

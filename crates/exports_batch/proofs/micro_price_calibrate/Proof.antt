@@ -1,85 +1,66 @@
+-- `exports_batch::micro_price_calibrate` meets its contract. The ways out: words that are not encoded are answered 100 and nothing is written, the second case
+-- of `calibrateWords`; encoded words tell the record and the configuration, and what the evening leaves of them goes back as words and a number, with the
+-- number of invalid quotes where there was a fit (`evening-words`). The calls after the test ask of the words only what the test says (`known`). No loop.
 use mathlib.Core.Path.{sym, _∙_}
 use borrow.Author.Tests.{not-true, not-false}
-use Rattle.encoding.proofs.Laws.{encoded-known, record-long}
+use Rattle.encoding.proofs.Laws.{Encoded, encoded-by}
 use Rattle.exports_batch.proofs.BatchWords.{evening-words}
 use borrow.Author.Needs.{needs}
 use Rattle.exports_batch.proofs.micro_price_calibrate.Statement.{statement}
 use Rattle.exports_batch.proofs.micro_price_calibrate.Tie as tie
 
-is-encoded-requires : tie.Need-is-encoded-requires
-is-encoded-requires c κs = search needs
-
-same-length : tie.Need-same-length
-same-length c = search needs
-
 returns : tie.Need-returns
-returns c = rw (← c .before .is-encoded .ensures, not-true (c .before .is-encoded .result) (c .if1 .taken))
+returns c = rw (sym (c .before .is-encoded .ensures) ∙ not-true _ (c .if1 .taken))
+
+-- the words are encoded
+known : (c : tie.Else1) → let at-start : tie.Start = search in Encoded (at-start .args .config .now) (at-start .args .rec .now)
+known c = encoded-by _ _ _ (c .before .is-encoded .ensures) (not-false _ (c .if1 .left))
 
 record-of-requires : tie.Need-record-of-requires
-record-of-requires c κs =
-    let branch = c .before in
-    let a = branch .before .before .before .before .before .before .before .before .before .before .args in
-    encoded-known (a .config .now) (a .rec .now) (sym (branch .before .is-encoded .ensures) ∙ not-false _ (branch .if1 .left)) .1
+record-of-requires c κs = known (c .before) .rec
 
 config-of-requires : tie.Need-config-of-requires
 config-of-requires c κs =
-    let branch = c .before .before .before .before .before in
-    let a = branch .before .before .before .before .before .before .before .before .before .before .args in
-    encoded-known (a .config .now) (a .rec .now) (sym (branch .before .is-encoded .ensures) ∙ not-false _ (branch .if1 .left)) .0
-
-calibrate-micro-price-requires : tie.Need-calibrate-micro-price-requires
-calibrate-micro-price-requires c κs = search needs
+    let at-else1 : tie.Else1 = search in
+    known at-else1 .config
 
 put-record-requires : tie.Need-put-record-requires
 put-record-requires c κs =
-    let branch = c .before .before .before .before .before .before .before .before .before .before .before .before .before .before .before .before .before .before .before in
-    let a = branch .before .before .before .before .before .before .before .before .before .before .args in
-    record-long (a .rec .now) (encoded-known (a .config .now) (a .rec .now) (sym (branch .before .is-encoded .ensures) ∙ not-false _ (branch .if1 .left)) .1)
-
-put-invalid-requires : tie.Need-put-invalid-requires
-put-invalid-requires c κs = search needs
-
-same-length-2 : tie.Need-same-length-2
-same-length-2 c = search needs
-
-same-length-3 : tie.Need-same-length-3
-same-length-3 c = search needs
-
-same-length-4 : tie.Need-same-length-4
-same-length-4 c = search needs
-
-same-length-5 : tie.Need-same-length-5
-same-length-5 c = search needs
-
-same-length-6 : tie.Need-same-length-6
-same-length-6 c = search needs
-
-same-length-7 : tie.Need-same-length-7
-same-length-7 c = search needs
+    let at-else1 : tie.Else1 = search in
+    known at-else1 .ten
 
 returns-2 : tie.Need-returns-2
 returns-2 c =
-    let called = c .before .before .before .before .before .before .before .before .before .before .before .before .before .before .before in
-    let branch = called .before .before .before .before .before .before .before .before .before in
-    let a = branch .before .before .before .before .before .before .before .before .before .before .args in
-    evening-words (a .config .now) _ (called .before .before .before .config-of .ensures) (a .rec .now) _ (called .before .before .before .before .before .before .before .record-of .ensures) (sym (branch .before .is-encoded .ensures) ∙ not-false _ (branch .if1 .left)) (a .stay .now) (a .moved .now) (a .move-half-ticks .now) (a .model .now) (a .scratch .now) (a .recording .now) (a .start) (a .end) (a .invalid .now) _ (called .calibrate-micro-price .result .answer) (called .calibrate-micro-price .result .next) _ _ _ _ _ _ _ (c .put-invalid .ensures .0) (c .before .before .before .before .put-record .ensures) (c .put-invalid .ensures .1) (called .calibrate-micro-price .ensures)
+    let at-put-record : tie.After-put-record = search in
+    let at-calibrate-micro-price : tie.After-calibrate-micro-price = search in
+    let at-config-of : tie.After-config-of = search in
+    let at-record-of : tie.After-record-of = search in
+    let at-else1 : tie.Else1 = search in
+    let at-slice-known4 : tie.After-slice-known4 = search in
+    let at-slice-known : tie.After-slice-known = search in
+    let at-start : tie.Start = search in
+    let a = at-start .args in
+    evening-words (a .config .now) (a .rec .now) (a .stay .now) (a .moved .now) (a .move-half-ticks .now) (known at-else1)
+    (at-record-of .record-of .ensures) (at-config-of .config-of .ensures) (a .recording .now) (a .start) (a .end)
+    (a .model .now) (a .scratch .now) (a .invalid .now)
+    (at-calibrate-micro-price .calibrate-micro-price .ensures) (at-put-record .put-record .ensures) (c .put-invalid .ensures)
 
 pub micro-price-calibrate-spec : {M : Type 1} → statement M
 micro-price-calibrate-spec =
     tie.close
     (tie.spec
-    is-encoded-requires
-    same-length
+    (λ c κs. search needs)
+    (λ c. search needs)
     returns
     record-of-requires
     config-of-requires
-    calibrate-micro-price-requires
+    (λ c κs. search needs)
     put-record-requires
-    put-invalid-requires
-    same-length-2
-    same-length-3
-    same-length-4
-    same-length-5
-    same-length-6
-    same-length-7
+    (λ c κs. search needs)
+    (λ c. search needs)
+    (λ c. search needs)
+    (λ c. search needs)
+    (λ c. search needs)
+    (λ c. search needs)
+    (λ c. search needs)
     returns-2)

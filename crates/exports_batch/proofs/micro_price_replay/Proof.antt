@@ -1,89 +1,72 @@
-use Rattle.replay.specs.Replay.{site, replay}
+-- `exports_batch::micro_price_replay` meets its contract. The ways out: words that are not encoded are answered 100 and nothing is written (`replay-refused`);
+-- encoded words tell the record and the configuration, and what the replay promises of them it promises of the words, with the record written back
+-- (`replay-words`). The calls after the test ask of the words only what the test says (`known`). No loop.
 use mathlib.Core.Path.{sym, _∙_}
 use borrow.Author.Tests.{not-true, not-false}
 use Rattle.encoding.proofs.Laws.{Encoded, encoded-by}
+use Rattle.replay.specs.Replay.{site, replay}
 use Rattle.exports_batch.proofs.BatchWords.{replay-refused, replay-words}
 use borrow.Author.Needs.{needs}
 use Rattle.exports_batch.proofs.micro_price_replay.Statement.{statement}
 use Rattle.exports_batch.proofs.micro_price_replay.Tie as tie
 
-is-encoded-requires : tie.Need-is-encoded-requires
-is-encoded-requires c κs = search needs
-
-same-length : tie.Need-same-length
-same-length c = search needs
-
 returns : tie.Need-returns
 returns c =
-    let a = c .before .before .before .before .before .before .before .before .before .before .args in
-    replay-refused (a .config .now) (a .rec .now) (a .stay .now) (a .moved .now) (a .move-half-ticks .now) (a .calls .now) (a .room .now) (a .answers .now) (sym (c .before .is-encoded .ensures) ∙ not-true _ (c .if1 .taken))
+    let at-start : tie.Start = search in
+    let a = at-start .args in
+    replay-refused (a .config .now) (a .rec .now) (a .stay .now) (a .moved .now) (a .move-half-ticks .now) (a .calls .now) (a .room .now) (a .answers .now)
+    (sym (c .before .is-encoded .ensures) ∙ not-true _ (c .if1 .taken))
 
 -- the words are encoded
-known : (c : tie.Else1) → Encoded (c .before .before .before .before .before .before .before .before .before .before .args .config .now) (c .before .before .before .before .before .before .before .before .before .before .args .rec .now)
+known : (c : tie.Else1) → let at-start : tie.Start = search in Encoded (at-start .args .config .now) (at-start .args .rec .now)
 known c = encoded-by _ _ _ (c .before .is-encoded .ensures) (not-false _ (c .if1 .left))
 
 record-of-requires : tie.Need-record-of-requires
 record-of-requires c κs = known (c .before) .rec
 
 config-of-requires : tie.Need-config-of-requires
-config-of-requires c κs = known (c .before .before .before .before .before) .config
-
-replay-requires : tie.Need-replay-requires
-replay-requires c κs = search needs
+config-of-requires c κs =
+    let at-else1 : tie.Else1 = search in
+    known at-else1 .config
 
 put-record-requires : tie.Need-put-record-requires
-put-record-requires c κs = known (c .before .before .before .before .before .before .before .before .before .before .before .before .before .before .before .before .before .before .before) .ten
-
-replayed-number-requires : tie.Need-replayed-number-requires
-replayed-number-requires c κs = search needs
-
-same-length-2 : tie.Need-same-length-2
-same-length-2 c = search needs
-
-same-length-3 : tie.Need-same-length-3
-same-length-3 c = search needs
-
-same-length-4 : tie.Need-same-length-4
-same-length-4 c = search needs
-
-same-length-5 : tie.Need-same-length-5
-same-length-5 c = search needs
-
-same-length-6 : tie.Need-same-length-6
-same-length-6 c = search needs
-
-same-length-7 : tie.Need-same-length-7
-same-length-7 c = search needs
+put-record-requires c κs =
+    let at-else1 : tie.Else1 = search in
+    known at-else1 .ten
 
 returns-2 : tie.Need-returns-2
 returns-2 c =
-    let called = c .before .before .before .before .before .before .before .before .before .before .before .before .before .before in
-    let configured = called .before .before .before in
-    let told = configured .before .before .before .before in
-    let branch = told .before .before in
-    let a = branch .before .before .before .before .before .before .before .before .before .before .args in
-    let o = called .replay in
-    replay-words (a .config .now) (a .rec .now) (a .stay .now) (a .moved .now) (a .move-half-ticks .now) (known branch .is)
-    _ (told .record-of .ensures) _ (configured .config-of .ensures)
-    (a .calls .now) (a .room .now) (a .answers .now)
-    (replay (o .result .answer) (o .last .1 .1 .1 .1 .1 .1 .1 .0) (site (o .result .next) (o .last .1 .0) (o .last .1 .1 .0) (o .last .1 .1 .1 .0) (o .last .1 .1 .1 .1 .1 .1 .0))) (o .ensures) _ (c .replayed-number .ensures) _ (c .before .before .before .put-record .ensures)
+    let at-put-record : tie.After-put-record = search in
+    let at-replay : tie.After-replay = search in
+    let at-config-of : tie.After-config-of = search in
+    let at-record-of : tie.After-record-of = search in
+    let at-else1 : tie.Else1 = search in
+    let at-slice-known4 : tie.After-slice-known4 = search in
+    let at-slice-known : tie.After-slice-known = search in
+    let at-start : tie.Start = search in
+    let a = at-start .args in
+    let o = at-replay .replay in
+    let after = site (o .result .next) (o .last .1 .0) (o .last .1 .1 .0) (o .last .1 .1 .1 .0) (o .last .1 .1 .1 .1 .1 .1 .0) in
+    replay-words (a .config .now) (a .rec .now) (a .stay .now) (a .moved .now) (a .move-half-ticks .now) (known at-else1)
+    (at-record-of .record-of .ensures) (at-config-of .config-of .ensures) (a .calls .now) (a .room .now) (a .answers .now)
+    (replay (o .result .answer) (o .last .1 .1 .1 .1 .1 .1 .1 .0) after) (o .ensures) (at-put-record .put-record .ensures) (c .replayed-number .ensures)
 
 pub micro-price-replay-spec : {M : Type 1} → statement M
 micro-price-replay-spec =
     tie.close
     (tie.spec
-    is-encoded-requires
-    same-length
+    (λ c κs. search needs)
+    (λ c. search needs)
     returns
     record-of-requires
     config-of-requires
-    replay-requires
+    (λ c κs. search needs)
     put-record-requires
-    replayed-number-requires
-    same-length-2
-    same-length-3
-    same-length-4
-    same-length-5
-    same-length-6
-    same-length-7
+    (λ c κs. search needs)
+    (λ c. search needs)
+    (λ c. search needs)
+    (λ c. search needs)
+    (λ c. search needs)
+    (λ c. search needs)
+    (λ c. search needs)
     returns-2)

@@ -1,22 +1,9 @@
+-- `exports_batch::put_invalid` meets its contract: each arm is one case of the two definitions. With a fit's answer the number of invalid quotes is written and
+-- the answer goes out as its number; a refusal before the fit leaves the word and goes out as its number.
 use mathlib.Core.Path.{refl}
 use borrow.Author.Needs.{needs}
 use Rattle.exports_batch.proofs.put_invalid.Statement.{statement}
 use Rattle.exports_batch.proofs.put_invalid.Tie as tie
-
-enum-known-answer : tie.Need-enum-known-answer
-enum-known-answer c = search needs
-
-check-number-requires : tie.Need-check-number-requires
-check-number-requires c κs = search needs
-
-enum-known-answer-2 : tie.Need-enum-known-answer-2
-enum-known-answer-2 c = search needs
-
-number-of-requires : tie.Need-number-of-requires
-number-of-requires c κs = search needs
-
-returns : tie.Need-returns
-returns c = search needs
 
 returns-2 : tie.Need-returns-2
 returns-2 c = rw (c .before .before .answer2 .given .1) (c .number-of .ensures, refl)
@@ -25,9 +12,9 @@ pub put-invalid-spec : {M : Type 1} → statement M
 put-invalid-spec =
     tie.close
     (tie.spec
-    enum-known-answer
-    check-number-requires
-    enum-known-answer-2
-    number-of-requires
-    returns
+    (λ c. search needs)
+    (λ c κs. search needs)
+    (λ c. search needs)
+    (λ c κs. search needs)
+    (λ c. search needs)
     returns-2)

@@ -1,131 +1,85 @@
-use Rattle.calibrator.specs.Record.{memory}
-use Rattle.image.specs.Image.{endRestore}
-use mathlib.Core.Path.{sym, _∙_, ap}
+-- `exports_image::micro_price_restore` meets its contract. The ways out: words that are not encoded are answered 100 and nothing is written, the second case of
+-- `restoreWords`; an image is taken back, and the words of its configuration and record are written (`restore-taken`); an image is refused, and the record
+-- written back is the one that came (`restore-refused`). The calls after the test ask of the words only what the test says (`known`). No loop.
+use mathlib.Core.Path.{sym, _∙_}
 use borrow.Author.Tests.{not-true, not-false}
-use Rattle.exports_image.specs.Images.{restoredNumber, configAfter}
 use Rattle.encoding.proofs.Laws.{Encoded, encoded-by}
-use Rattle.exports_image.proofs.ImageWords.{restore-words}
+use Rattle.exports_image.proofs.ImageWords.{restore-taken, restore-refused}
 use borrow.Author.Needs.{needs}
 use Rattle.exports_image.proofs.micro_price_restore.Statement.{statement}
 use Rattle.exports_image.proofs.micro_price_restore.Tie as tie
 
-is-encoded-requires : tie.Need-is-encoded-requires
-is-encoded-requires c κs = search needs
-
-same-length : tie.Need-same-length
-same-length c = search needs
-
-same-length-2 : tie.Need-same-length-2
-same-length-2 c = search needs
-
 returns : tie.Need-returns
-returns c = let e = sym (c .before .is-encoded .ensures) ∙ not-true _ (c .if1 .taken) in rw e
+returns c = rw (sym (c .before .is-encoded .ensures) ∙ not-true _ (c .if1 .taken))
 
 -- the words are encoded
-known : (c : tie.Else1) → Encoded (c .before .before .before .before .before .before .before .before .before .args .config .now) (c .before .before .before .before .before .before .before .before .before .args .rec .now)
+known : (c : tie.Else1) → let at-start : tie.Start = search in Encoded (at-start .args .config .now) (at-start .args .rec .now)
 known c = encoded-by _ _ _ (c .before .is-encoded .ensures) (not-false _ (c .if1 .left))
 
 record-of-requires : tie.Need-record-of-requires
 record-of-requires c κs = known (c .before) .rec
 
-restore-requires : tie.Need-restore-requires
-restore-requires c κs = search needs
-
 put-record-requires : tie.Need-put-record-requires
-put-record-requires c κs = known (c .before .before .before .before .before .before .before .before .before .before .before .before) .ten
-
-enum-known-answer : tie.Need-enum-known-answer
-enum-known-answer c = search needs
+put-record-requires c κs =
+    let at-else1 : tie.Else1 = search in
+    known at-else1 .ten
 
 put-config-requires : tie.Need-put-config-requires
-put-config-requires c κs = known (c .before .before .before .before .before .before .before .before .before .before .before .before .before .before .before .before .before .before .before) .config
-
-enum-known-answer-2 : tie.Need-enum-known-answer-2
-enum-known-answer-2 c = search needs
-
-number-of-requires : tie.Need-number-of-requires
-number-of-requires c κs = search needs
-
-same-length-3 : tie.Need-same-length-3
-same-length-3 c = search needs
-
-same-length-4 : tie.Need-same-length-4
-same-length-4 c = search needs
-
-same-length-5 : tie.Need-same-length-5
-same-length-5 c = search needs
-
-same-length-6 : tie.Need-same-length-6
-same-length-6 c = search needs
-
-same-length-7 : tie.Need-same-length-7
-same-length-7 c = search needs
+put-config-requires c κs =
+    let at-else1 : tie.Else1 = search in
+    known at-else1 .config
 
 returns-2 : tie.Need-returns-2
 returns-2 c =
-    let called = c .before .before .before .before .before .before .before .before .before .before .before .before .before .before .before .before in
-    let told = called .before .before .before .before in
-    let branch = told .before .before in
-    let a = branch .before .before .before .before .before .before .before .before .before .args in
-    let k = c .before .before .before .before .before .answer .given .1 in
-    let o = called .restore in
-    restore-words (a .config .now) (a .rec .now) (a .stay .now) (a .moved .now) (a .move-half-ticks .now) (known branch .is)
-    _ (told .record-of .ensures)
-    (a .image .now) (endRestore (o .result .answer) (memory (o .result .next) (o .last .1 .1 .0) (o .last .1 .1 .1 .0) (o .last .1 .1 .1 .1 .0))) (o .ensures)
-    _ (sym (ap restoredNumber k)) _ (c .before .before .put-config .ensures ∙ sym (ap (λ x. configAfter x (a .config .now)) k)) _ (c .before .before .before .before .before .before .before .before .before .put-record .ensures)
-
-same-length-8 : tie.Need-same-length-8
-same-length-8 c = search needs
-
-same-length-9 : tie.Need-same-length-9
-same-length-9 c = search needs
-
-same-length-10 : tie.Need-same-length-10
-same-length-10 c = search needs
-
-same-length-11 : tie.Need-same-length-11
-same-length-11 c = search needs
-
-same-length-12 : tie.Need-same-length-12
-same-length-12 c = search needs
+    let at-answer : tie.After-answer = search in
+    let at-put-record : tie.After-put-record = search in
+    let at-restore : tie.After-restore = search in
+    let at-record-of : tie.After-record-of = search in
+    let at-else1 : tie.Else1 = search in
+    let at-slice-known3 : tie.After-slice-known3 = search in
+    let at-start : tie.Start = search in
+    let a = at-start .args in
+    restore-taken (a .config .now) (a .rec .now) (a .stay .now) (a .moved .now) (a .move-half-ticks .now) (known at-else1)
+    (at-record-of .record-of .ensures) (a .image .now) (at-restore .restore .ensures) (at-put-record .put-record .ensures)
+    (at-answer .answer .given .1) (c .before .before .put-config .ensures)
 
 returns-3 : tie.Need-returns-3
 returns-3 c =
-    let called = c .before .before .before .before .before .before .before .before .before .before .before .before .before in
-    let told = called .before .before .before .before in
-    let branch = told .before .before in
-    let a = branch .before .before .before .before .before .before .before .before .before .args in
-    let k = c .before .before .answer2 .given .1 in
-    let o = called .restore in
-    restore-words (a .config .now) (a .rec .now) (a .stay .now) (a .moved .now) (a .move-half-ticks .now) (known branch .is)
-    _ (told .record-of .ensures)
-    (a .image .now) (endRestore (o .result .answer) (memory (o .result .next) (o .last .1 .1 .0) (o .last .1 .1 .1 .0) (o .last .1 .1 .1 .1 .0))) (o .ensures)
-    _ (c .number-of .ensures ∙ sym (ap restoredNumber k)) _ (sym (ap (λ x. configAfter x (a .config .now)) k)) _ (c .before .before .before .before .before .before .put-record .ensures)
+    let at-put-record : tie.After-put-record = search in
+    let at-restore : tie.After-restore = search in
+    let at-record-of : tie.After-record-of = search in
+    let at-else1 : tie.Else1 = search in
+    let at-slice-known3 : tie.After-slice-known3 = search in
+    let at-start : tie.Start = search in
+    let a = at-start .args in
+    restore-refused (a .config .now) (a .rec .now) (a .stay .now) (a .moved .now) (a .move-half-ticks .now) (known at-else1)
+    (at-record-of .record-of .ensures) (a .image .now) (at-restore .restore .ensures) (at-put-record .put-record .ensures)
+    (c .before .before .answer2 .given .1) (c .number-of .ensures)
 
 pub micro-price-restore-spec : {M : Type 1} → statement M
 micro-price-restore-spec =
     tie.close
     (tie.spec
-    is-encoded-requires
-    same-length
-    same-length-2
+    (λ c κs. search needs)
+    (λ c. search needs)
+    (λ c. search needs)
     returns
     record-of-requires
-    restore-requires
+    (λ c κs. search needs)
     put-record-requires
-    enum-known-answer
+    (λ c. search needs)
     put-config-requires
-    enum-known-answer-2
-    number-of-requires
-    same-length-3
-    same-length-4
-    same-length-5
-    same-length-6
-    same-length-7
+    (λ c. search needs)
+    (λ c κs. search needs)
+    (λ c. search needs)
+    (λ c. search needs)
+    (λ c. search needs)
+    (λ c. search needs)
+    (λ c. search needs)
     returns-2
-    same-length-8
-    same-length-9
-    same-length-10
-    same-length-11
-    same-length-12
+    (λ c. search needs)
+    (λ c. search needs)
+    (λ c. search needs)
+    (λ c. search needs)
+    (λ c. search needs)
     returns-3)

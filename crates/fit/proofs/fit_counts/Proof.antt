@@ -2,7 +2,7 @@
 -- called on it, with the slices given up at their own lifetimes.
 -- The walk reads neither contract: what `fit_counts` requires is what `inner::fit_counts` requires, and what `inner::fit_counts` ensures is what `fit_counts`
 -- ensures, each by computation. All that it knows of `inner::fit_counts` is that it meets its contract.
--- Assumes nothing.
+-- tools/thin.py wrote it from its entry in tools/walks.json; `tools/walks.py --write` writes it anew.
 use mathlib.Core.Path.{_≡_, refl}
 use mathlib.Core.List.{[], _∷_, List}
 use lib.ListN.{length}
@@ -18,7 +18,7 @@ use ghost.Atoms.{Atoms}
 use contract.Monad.{Fun}
 use contract.Running.{givenOf, tables, tablesOf}
 use contract.Lifetimes.{Lfts, Shares}
-use types.Kit.{Given, Item, raw, some, later, qed, by, move, drop, use1, split, join, group, pick, fsplit, fsplit3, fjoin, feqL, suffices, await, done, ‵, _⊛_, ⋆, _$_, _∵_, ! }
+use types.Kit.{Given, Item, raw, some, later, qed, by, move, drop, use1, split, join, group, pick, fsplit, fsplit3, fjoin, feqL, suffices, await, done, ‵, ⋆, !, _⊛_, _$_, _∵_}
 use types.Run.{look, look-raw, init, forget, stop, hop, fld, from, load, addr, of-opd, and-then, no-more, assigns, land, returns, enter, alloc1, alloc0, params1, pass1, pass0, free1, free0}
 use types.Part.{agg, whole, sub, look-in}
 use sound.WpLaws.{FmC, fmOf, WpFn-mono}
@@ -29,8 +29,6 @@ use denote.Ref.{ptr-vals, shr-tells}
 use denote.Slice.{MutSlice, ShrSlice, slice-vals, mut-slice-tells, shr-slice-tells, finally}
 use denote.Steps.{looks, shuts, owned, peeks, nothing}
 use denote.Struct.Steps.{spelt}
-use denote.Struct.Laws as LL
-use denote.Enum.Laws as EL
 use denote.Triple.Entry.{Args, Vals, onEntry}
 use denote.Triple.Spec.{Meets, tripleOf}
 use denote.Triple.Statement.{Contract, Triple}
@@ -40,13 +38,15 @@ use denote.Triple.Table.{entered, cited}
 use denote.Triple.Walked.{Stays, stay-dropped, gave-slice, walkOf, AllGo, goes-dropped, goes-gave-slice, Walks, ends-at, walked, walk-meets}
 use denote.Exit.{yes}
 use denote.Signature.{plain, typesAt, shrRefTo, shrSliceOf}
+use denote.Struct.Laws as LL
+use denote.Enum.Laws as EL
 use Rattle.refusals.specs.declared.Check.{Check}
 use Rattle.calibrator.proofs.Record as T
 use Rattle.calibrator.proofs.Record.Laws as T′
-use Rattle.refusals.proofs.Check as N
-use Rattle.refusals.proofs.Check.Laws as N′
 use Rattle.config.proofs.MicroPriceConfig as Q
 use Rattle.config.proofs.MicroPriceConfig.Laws as Q′
+use Rattle.refusals.proofs.Check as N
+use Rattle.refusals.proofs.Check.Laws as N′
 use Rattle.fit.proofs.inner.fit_counts as by-value
 use Rattle.fit.proofs.inner.fit_counts.Symbol as core-def
 use Rattle.fit.proofs.inner.fit_counts.Symbol.{name as #core}
@@ -72,8 +72,8 @@ stayed = (
 )
 
 -- the contract that the proof cites
-abbrev Core : {M : Type 1} (𝓤 : URA M) (H : Heap 𝓤) (A : Atoms 𝓤) (mem : Memory → SProp 𝓤) (run : Routine → Fun 𝓤) → Contract 𝓤
-Core 𝓤 H A mem run = tripleOf 𝓤 H A by-value.signature (by-value.spec 𝓤 H A mem run)
+abbrev Core : {M : Type 1} (𝓤 : URA M) (H : Heap 𝓤) (A : Atoms 𝓤) (at-mem : Memory → SProp 𝓤) (run : Routine → Fun 𝓤) → Contract 𝓤
+Core 𝓤 H A at-mem run = tripleOf 𝓤 H A by-value.signature (by-value.spec 𝓤 H A at-mem run)
 
 module _ {M : Type 1} (𝓤 : URA M) (H : Heap 𝓤) (A : Atoms 𝓤) (W : Given 𝓤 H A) (at-mem : Memory → SProp 𝓤) (run : Routine → Fun 𝓤) (κs : Lfts 6)
     (qs : Shares 6) (a : Args fit-counts.signature κs) where
@@ -216,10 +216,10 @@ module _ {M : Type 1} (𝓤 : URA M) (H : Heap 𝓤) (A : Atoms 𝓤) (W : Given
           move ! (6 ∷ 7 ∷ []) $ free1 ! $ free0 ! $
           by ! (exits r v zs e1 e2))))))))))))))))))))))
 
-module _ {M : Type 1} (𝓤 : URA M) (H : Heap 𝓤) (A : Atoms 𝓤) (W : Given 𝓤 H A) (mem : Memory → SProp 𝓤) (run : Routine → Fun 𝓤) where
-  walks : (C : Calls 𝓤 H) (Λ : Loops 𝓤 H) → FmC 𝓤 H (W .laws) C → Triple 𝓤 (C #core) (Core 𝓤 H A mem run)
-      → Walks 𝓤 H A fit-counts.ended stayed (WpFn 𝓤 H C Λ code.function) (fit-counts.clauses 𝓤 H A mem run)
-  walks C Λ fm known = walked 𝓤 H A fit-counts.ended stayed (fit-counts.clauses 𝓤 H A mem run) (WpFn 𝓤 H C Λ code.function)
+module _ {M : Type 1} (𝓤 : URA M) (H : Heap 𝓤) (A : Atoms 𝓤) (W : Given 𝓤 H A) (at-mem : Memory → SProp 𝓤) (run : Routine → Fun 𝓤) where
+  walks : (C : Calls 𝓤 H) (Λ : Loops 𝓤 H) → FmC 𝓤 H (W .laws) C → Triple 𝓤 (C #core) (Core 𝓤 H A at-mem run)
+      → Walks 𝓤 H A fit-counts.ended stayed (WpFn 𝓤 H C Λ code.function) (fit-counts.clauses 𝓤 H A at-mem run)
+  walks C Λ fm known = walked 𝓤 H A fit-counts.ended stayed (fit-counts.clauses 𝓤 H A at-mem run) (WpFn 𝓤 H C Λ code.function)
       (λ κs. (ptr-vals, (slice-vals, (slice-vals, (slice-vals, (LL.vals Q.the-type Q′.the-laws, (slice-vals, (slice-vals, tt))))))))
       (λ κs. (
         shr-tells (named 0) (κs .0) T.the-row,
@@ -237,7 +237,7 @@ module _ {M : Type 1} (𝓤 : URA M) (H : Heap 𝓤) (A : Atoms 𝓤) (W : Given
           ),
         ),
       ))
-      (λ κs qs bounds a g are. walk 𝓤 H A W mem run κs qs a are C Λ fm known)
+      (λ κs qs bounds a g are. walk 𝓤 H A W at-mem run κs qs a are C Λ fm known)
 
   all-go : AllGo 𝓤 H A W 6 (fit-counts.signature .params) (fit-counts.ended .kept) stayed
   all-go = (
@@ -257,12 +257,12 @@ module _ {M : Type 1} (𝓤 : URA M) (H : Heap 𝓤) (A : Atoms 𝓤) (W : Given
     ),
   )
 
-meets : {M : Type 1} (𝓤 : URA M) (H : Heap 𝓤) (A : Atoms 𝓤) → Given 𝓤 H A → (mem : Memory → SProp 𝓤) (run : Routine → Fun 𝓤) (𝓣 : Tables 𝓤 H)
-    → Triple 𝓤 (𝓣 .C #core) (Core 𝓤 H A mem run)
-    → Meets 𝓤 H A fit-counts.signature (WpFn 𝓤 H (𝓣 .C) (𝓣 .Λ) code.function) (fit-counts.spec 𝓤 H A mem run)
-meets 𝓤 H A W mem run 𝓣 known =
-    walk-meets 𝓤 H A fit-counts.ended stayed W (all-go 𝓤 H A W mem run) (fit-counts.clauses 𝓤 H A mem run)
-    (WpFn 𝓤 H (𝓣 .C) (𝓣 .Λ) code.function) (WpFn-mono 𝓤 H (W .laws) 𝓣 code.function) (walks 𝓤 H A W mem run (𝓣 .C) (𝓣 .Λ) (fmOf 𝓤 H (W .laws) 𝓣) known)
+meets : {M : Type 1} (𝓤 : URA M) (H : Heap 𝓤) (A : Atoms 𝓤) → Given 𝓤 H A → (at-mem : Memory → SProp 𝓤) (run : Routine → Fun 𝓤) (𝓣 : Tables 𝓤 H)
+    → Triple 𝓤 (𝓣 .C #core) (Core 𝓤 H A at-mem run)
+    → Meets 𝓤 H A fit-counts.signature (WpFn 𝓤 H (𝓣 .C) (𝓣 .Λ) code.function) (fit-counts.spec 𝓤 H A at-mem run)
+meets 𝓤 H A W at-mem run 𝓣 known =
+    walk-meets 𝓤 H A fit-counts.ended stayed W (all-go 𝓤 H A W at-mem run) (fit-counts.clauses 𝓤 H A at-mem run)
+    (WpFn 𝓤 H (𝓣 .C) (𝓣 .Λ) code.function) (WpFn-mono 𝓤 H (W .laws) 𝓣 code.function) (walks 𝓤 H A W at-mem run (𝓣 .C) (𝓣 .Λ) (fmOf 𝓤 H (W .laws) 𝓣) known)
 
 pub fit-counts-spec : {M : Type 1} → stated.statement M
 unfolding code.routine tablesOf

@@ -1,3 +1,5 @@
+-- `floats::as_great` meets its contract: only a NaN differs from itself, and a NaN is as great as any (`nan-is`); else the comparison decides, as in the
+-- definition (`no-nan`).
 use lib.Ieee.{isNan}
 use Rattle.floats.specs.Floats.{asGreat}
 use Rattle.floats.proofs.Helpers.{nan-is, no-nan}

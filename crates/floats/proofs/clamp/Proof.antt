@@ -1,3 +1,5 @@
+-- `floats::clamp` meets its contract: one law for each way out: below zero (`clamp-below`), above one (`clamp-above`), neither, and so for NaN
+-- (`clamp-between`).
 use Rattle.floats.proofs.Helpers.{clamp-below, clamp-above, clamp-between}
 use Rattle.floats.proofs.clamp.Statement.{statement}
 use Rattle.floats.proofs.clamp.Tie as tie

@@ -1,3 +1,5 @@
+-- `floats::from_bits` meets its contract: bits that, without the sign, are above those of infinity are a NaN (`pattern-nan`), and 0 / 0 computes to NaN; any
+-- other bits the machine's conversion takes, which asks that they are no NaN's (`pattern-no-nan`).
 use borrow.Author.Needs.{needs}
 use lib.Ieee.{ofBits, div}
 use mathlib.Core.Path.{sym}
@@ -12,8 +14,5 @@ returns c = sym (pattern-nan _ (c .if1 .taken))
 float-from-bits-result : tie.Need-float-from-bits-result
 float-from-bits-result c = pattern-no-nan _ (c .if1 .left)
 
-returns-2 : tie.Need-returns-2
-returns-2 c = search needs
-
 pub from-bits-spec : {M : Type 1} → statement M
-from-bits-spec = tie.close (tie.spec returns float-from-bits-result returns-2)
+from-bits-spec = tie.close (tie.spec returns float-from-bits-result (λ c. search needs))

@@ -1,3 +1,5 @@
+-- `floats::plus_zero` meets its contract: what equals zero is a zero of either sign, since the argument is a float that binary64 holds (`plus-zero`); any other
+-- float stays (`plus-other`).
 use mathlib.Core.Path.{sym, subst}
 use lib.Dec.{T}
 use lib.Ieee.{binary64, fits}

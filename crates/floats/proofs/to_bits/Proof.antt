@@ -1,3 +1,5 @@
+-- `floats::to_bits` meets its contract: only a NaN differs from itself, and its bits are the one pattern (`nan-is`); any other float the machine's conversion
+-- takes, which asks that it is no NaN (`no-nan`).
 use mathlib.Core.Path.{refl}
 use lib.Ieee.{toBits}
 use Rattle.floats.proofs.Helpers.{nan-is, no-nan}

@@ -1,44 +1,36 @@
+-- `layout::config_in` meets its contract: five words of the header go into a configuration by the same calls as in the definition; each answer is rewritten to
+-- what its callee ensures. The header's 160 bytes are there, so each read is inside.
 use borrow.Author.Needs.{needs}
 use Rattle.layout.proofs.config_in.Statement.{statement}
 use Rattle.layout.proofs.config_in.Tie as tie
 
-get-word-requires : tie.Need-get-word-requires
-get-word-requires c κs = search needs
-
-get-word-requires-2 : tie.Need-get-word-requires-2
-get-word-requires-2 c κs = search needs
-
-get-word-requires-3 : tie.Need-get-word-requires-3
-get-word-requires-3 c κs = search needs
-
-get-word-requires-4 : tie.Need-get-word-requires-4
-get-word-requires-4 c κs = search needs
-
-get-word-requires-5 : tie.Need-get-word-requires-5
-get-word-requires-5 c κs = search needs
-
-new-requires : tie.Need-new-requires
-new-requires c κs = search needs
-
-with-min-state-observations-requires : tie.Need-with-min-state-observations-requires
-with-min-state-observations-requires c κs = search needs
-
-with-max-quote-gap-ms-requires : tie.Need-with-max-quote-gap-ms-requires
-with-max-quote-gap-ms-requires c κs = search needs
-
 returns : tie.Need-returns
-returns c = rw (c .with-max-quote-gap-ms .ensures, c .before .with-min-state-observations .ensures, c .before .before .new .ensures, c .before .before .before .before .before .before .before .get-word .ensures, c .before .before .before .before .before .before .get-word2 .ensures, c .before .before .before .before .before .get-word3 .ensures, c .before .before .before .before .get-word4 .ensures, c .before .before .before .get-word5 .ensures)
+returns c =
+    let at-get-word4 : tie.After-get-word4 = search in
+    let at-get-word3 : tie.After-get-word3 = search in
+    let at-get-word2 : tie.After-get-word2 = search in
+    let at-get-word : tie.After-get-word = search in
+    rw (
+      c .with-max-quote-gap-ms .ensures,
+      c .before .with-min-state-observations .ensures,
+      c .before .before .new .ensures,
+      at-get-word .get-word .ensures,
+      at-get-word2 .get-word2 .ensures,
+      at-get-word3 .get-word3 .ensures,
+      at-get-word4 .get-word4 .ensures,
+      c .before .before .before .get-word5 .ensures,
+    )
 
 pub config-in-spec : {M : Type 1} → statement M
 config-in-spec =
     tie.close
     (tie.spec
-    get-word-requires
-    get-word-requires-2
-    get-word-requires-3
-    get-word-requires-4
-    get-word-requires-5
-    new-requires
-    with-min-state-observations-requires
-    with-max-quote-gap-ms-requires
+    (λ c κs. search needs)
+    (λ c κs. search needs)
+    (λ c κs. search needs)
+    (λ c κs. search needs)
+    (λ c κs. search needs)
+    (λ c κs. search needs)
+    (λ c κs. search needs)
+    (λ c κs. search needs)
     returns)

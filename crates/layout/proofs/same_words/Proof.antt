@@ -1,13 +1,13 @@
-use mathlib.Core.Bool.{true, false}
-use lib.ListN.{getD, drop}
-use lib.Dec.{eqb}
-use Rattle.words.specs.Words.{wordAt, wordsOf}
-use Prim.Native.Nat.{_-_, _*_, _≤_}
+-- `layout::same_words` meets its contract: whether 20 words of bytes are those of h. Loop over i, measure 20 − i; invariant: all words are the same exactly if
+-- those from i on are. A word that differs ends the walk (`same-differs`), one that agrees leaves the rest (`same-agrees`), and with no word left all are the
+-- same (`same-end`).
 use mathlib.Core.Path.{_≡_, sym, _∙_}
+use Prim.Native.Nat.{_-_, _*_, _≤_}
 use native.Mathlib.Omega.{arith}
-use borrow.Author.Tests.{eq-eqb, ne-eqb}
+use lib.ListN.{drop}
+use Rattle.words.specs.Words.{wordsOf}
 use Rattle.layout.specs.Layout.{headerIn, sameWords}
-use Rattle.layout.proofs.Headers.{same-start, same-step, same-end}
+use Rattle.layout.proofs.Headers.{same-start, same-differs, same-agrees, same-end}
 use Rattle.layout.proofs.same_words.Statement.{statement}
 use Rattle.layout.proofs.same_words.Tie as tie
 
@@ -20,43 +20,34 @@ abbrev μ-loop : tie.MeasureT-loop
 loop-holds : tie.Need-loop-holds Inv-loop μ-loop
 loop-holds c = let a = c .before .before .args in (omega arith, same-start (a .b .now) (a .h .now))
 
-mul-get-word : tie.Need-mul-get-word Inv-loop μ-loop
-mul-get-word c = omega arith
-
-get-word-requires : tie.Need-get-word-requires Inv-loop μ-loop
-get-word-requires c κs = omega arith
-
-mul-if1 : tie.Need-mul-if1 Inv-loop μ-loop
-mul-if1 c = omega arith
-
-shared-slice-read-if1 : tie.Need-shared-slice-read-if1 Inv-loop μ-loop
-shared-slice-read-if1 c = omega arith
-
 returns : tie.Need-returns Inv-loop μ-loop
 returns c =
-    let a = c .before .before .before .before .before .before .before .args in
-    let l = c .before .before .before .before .loop in
-    let e : eqb (wordAt (a .b .now) (8 * l .i)) (getD (a .h .now) (l .i) 0) ≡ false = ne-eqb _ _ (λ h. c .if1 .taken (c .before .before .get-word .ensures ∙ h)) in
-    sym (l .inv .1 ∙ same-step (a .b .now) (a .h .now) (l .i) (c .before .before .before .loop-test .taken) (c .before .before .before .before .before .before .before .pre .1) ∙ rw e)
-
-add-i : tie.Need-add-i Inv-loop μ-loop
-add-i c = omega arith
-
-loop-less : tie.Need-loop-less Inv-loop μ-loop
-loop-less c = omega arith
+    let at-loop : tie.At-loop Inv-loop μ-loop = search in
+    let at-start : tie.Start Inv-loop μ-loop = search in
+    let a = at-start .args in
+    let l = at-loop .loop in
+    sym (l .inv .1
+    ∙ same-differs (a .b .now) (a .h .now) (l .i) (c .before .before .before .loop-test .taken) (at-start .pre .1) (c .before .before .get-word .ensures)
+    (c .if1 .taken))
 
 loop-again : tie.Need-loop-again Inv-loop μ-loop
 loop-again c =
-    let a = c .before .before .before .before .before .before .before .args in
-    let l = c .before .before .before .before .loop in
-    let e : eqb (wordAt (a .b .now) (8 * l .i)) (getD (a .h .now) (l .i) 0) ≡ true = eq-eqb _ _ (sym (c .before .before .get-word .ensures) ∙ c .if1 .left) in
-    (omega arith, l .inv .1 ∙ same-step (a .b .now) (a .h .now) (l .i) (c .before .before .before .loop-test .taken) (c .before .before .before .before .before .before .before .pre .1) ∙ rw e)
+    let at-loop : tie.At-loop Inv-loop μ-loop = search in
+    let at-start : tie.Start Inv-loop μ-loop = search in
+    let a = at-start .args in
+    let l = at-loop .loop in (
+      omega arith,
+      l .inv .1
+          ∙ same-agrees (a .b .now) (a .h .now) (l .i) (c .before .before .before .loop-test .taken) (at-start .pre .1) (c .before .before .get-word .ensures)
+          (c .if1 .left),
+    )
 
 returns-2 : tie.Need-returns-2 Inv-loop μ-loop
 returns-2 c =
-    let a = c .before .before .before .before .args in
+    let at-start : tie.Start Inv-loop μ-loop = search in
+    let a = at-start .args in
     let l = c .before .loop in
-    sym (l .inv .1 ∙ same-end (a .b .now) (a .h .now) (l .i) (c .loop-test .left) (c .before .before .before .before .pre .1))
+    sym (l .inv .1 ∙ same-end (a .b .now) (a .h .now) (l .i) (c .loop-test .left) (at-start .pre .1))
 
 pub same-words-spec : {M : Type 1} → statement M
 same-words-spec =
@@ -65,12 +56,12 @@ same-words-spec =
     Inv-loop
     μ-loop
     loop-holds
-    mul-get-word
-    get-word-requires
-    mul-if1
-    shared-slice-read-if1
+    (λ c. omega arith)
+    (λ c κs. omega arith)
+    (λ c. omega arith)
+    (λ c. omega arith)
     returns
-    add-i
-    loop-less
+    (λ c. omega arith)
+    (λ c. omega arith)
     loop-again
     returns-2)

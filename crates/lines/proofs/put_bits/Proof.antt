@@ -1,3 +1,5 @@
+-- `lines::put_bits` meets its contract: 16 digits (`bits-in`) and one byte (`bytes-in`), one after the other (`both`), are at most 17. The space has room since
+-- the digits ended 16 bytes after `at` (`length-hex16`).
 use native.Mathlib.Omega.{arith}
 use Rattle.text.proofs.Puts.{length-hex16}
 use Rattle.lines.proofs.Within.{bytes-in, bits-in, both}

@@ -1,3 +1,5 @@
+-- `lines::put_counters` meets its contract: five lines one after another (`both`), each a word and a number. No loop. The bounds of the lines, 27, 28, 25, 29
+-- and 29 bytes, add up to 138; each line has room since the lines before it kept to theirs.
 use Rattle.lines.proofs.Within.{both}
 use borrow.Author.Needs.{needs}
 use Rattle.lines.proofs.put_counters.Statement.{statement}

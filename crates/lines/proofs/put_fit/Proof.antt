@@ -1,3 +1,5 @@
+-- `lines::put_fit` meets its contract: the rows of a fit that was made, at most 156 × n bytes, or the line of a refusal, at most 25; both are within 4,212
+-- (`loosely`), and both are `fitLines` of the answer that the match found.
 use native.Mathlib.Omega.{arith}
 use Rattle.lines.proofs.Within.{loosely}
 use borrow.Author.Needs.{needs}

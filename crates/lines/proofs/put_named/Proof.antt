@@ -1,3 +1,5 @@
+-- `lines::put_named` meets its contract: the word (`bytes-in`), the number, which has at most 20 digits since it is below 2^64 (`number-in`, `decimal-word`),
+-- and a newline, one after another (`both`).
 use native.Mathlib.Omega.{arith}
 use Rattle.text.proofs.Decimals.{decimal-word}
 use Rattle.lines.proofs.Within.{bytes-in, number-in, loosely, both}

@@ -1,3 +1,5 @@
+-- `lines::put_row` meets its contract: numbers, floats and status one after another (`both`), at most 84 + 51 + 21 = 156 bytes; the status is word 6 of the
+-- row.
 use Rattle.lines.proofs.Within.{both}
 use borrow.Author.Needs.{needs}
 use Rattle.lines.proofs.put_row.Statement.{statement}

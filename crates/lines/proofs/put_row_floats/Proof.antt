@@ -1,3 +1,4 @@
+-- `lines::put_row_floats` meets its contract: words 3, 4 and 5 of the row as bits, one after another (`both`), 17 bytes each.
 use Rattle.lines.proofs.Within.{both}
 use borrow.Author.Needs.{needs}
 use Rattle.lines.proofs.put_row_floats.Statement.{statement}

@@ -1,3 +1,4 @@
+-- `lines::put_row_numbers` meets its contract: the state and words 0, 1 and 2 of the row, one after another (`both`), at most 21 bytes each.
 use Rattle.lines.proofs.Within.{both}
 use borrow.Author.Needs.{needs}
 use Rattle.lines.proofs.put_row_numbers.Statement.{statement}

@@ -1,3 +1,5 @@
+-- `lines::put_rows` meets its contract. Invariant: the lines of states 0 to i - 1 are written, in at most 156 × i bytes, and the output is as long as it was.
+-- The measure is n - i. Before the first round there are none (`no-rows`); one row more is `row-more`; at the end i is n.
 use Prim.Native.Nat.{_*_, _-_, _≤_}
 use mathlib.Core.Path.{_≡_}
 use native.Mathlib.Omega.{arith}

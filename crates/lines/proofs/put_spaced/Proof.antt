@@ -1,3 +1,4 @@
+-- `lines::put_spaced` meets its contract: a number below 2^64 has at most 20 digits (`number-in`, `decimal-word`), and a space follows (`both`).
 use native.Mathlib.Omega.{arith}
 use Rattle.text.proofs.Decimals.{decimal-word}
 use Rattle.lines.proofs.Within.{bytes-in, number-in, both}

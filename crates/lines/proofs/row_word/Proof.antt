@@ -1,3 +1,4 @@
+-- `lines::row_word` meets its contract: the cell is read where the table has it; behind the table's end the definition reads 0 too (`List·getD-eq-default`).
 use Prim.Native.Nat.{_+_, _*_, _≤_}
 use mathlib.Core.Path.{sym}
 use native.Mathlib.Omega.{arith}

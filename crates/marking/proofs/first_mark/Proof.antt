@@ -1,9 +1,10 @@
+-- `marking::first_mark` meets its contract: three ways out, by the state's own rows. Fewer observations than the least gives 1 (`first-rare`); else a positive
+-- moved cell gives 0 (`first-path`); else 2 (`first-none`). `has_positive` asks that row x lies in `moved` (`row-in-tables`). No loop.
 use mathlib.Core.Path.{sym, _∙_}
 use denote.Ref.{now}
 use native.Mathlib.Omega.{arith}
 use borrow.Author.Needs.{needs}
-use Rattle.basics.proofs.Tests.{row-in}
-use Rattle.marking.proofs.Rows.{first-rare, first-path, first-none}
+use Rattle.marking.proofs.Rows.{row-in-tables, first-rare, first-path, first-none}
 use Rattle.marking.proofs.first_mark.Statement.{statement}
 use Rattle.marking.proofs.first_mark.Tie as tie
 
@@ -16,9 +17,7 @@ returns c =
 has-positive-requires : tie.Need-has-positive-requires
 has-positive-requires c κs =
     let at-start : tie.Start = search in
-    let a = at-start .args in
-    let r = row-in (a .x) (a .n) (a .n) (omega arith) in
-    omega arith
+    row-in-tables (at-start .pre .0) (at-start .pre .1) .moved-in
 
 returns-2 : tie.Need-returns-2
 returns-2 c =

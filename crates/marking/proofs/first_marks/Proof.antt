@@ -1,3 +1,6 @@
+-- `marking::first_marks` meets its contract: the places 0 to n − 1 get the marks of their states by the states' own rows, and no other place changes.
+-- Invariant: the first x marks are stored, and the places from x on are as they were (`Stored`, by `stored-none` and `stored-more`). The measure is n less x.
+-- At the way out x is n, so the marks of all states are stored.
 use Prim.Native.Nat.{_≤_, _-_}
 use denote.Ref.{now}
 use native.Mathlib.Omega.{arith}

@@ -1,36 +1,27 @@
-use mathlib.Core.Path.{_≡_, refl, sym}
-use mathlib.Core.Bool.{false}
-use Prim.Native.Nat.{_≤_, _-_, _*_}
+-- `marking::leads_out` meets its contract: a loop over row x that stops at the first positive stay cell to a state with mark 0. Invariant: none of the first j
+-- states is led to (`Searching`). The measure is n less j. The ways out: such a state (`searching-found`), and the end of the row (`searching-all`).
+use Prim.Native.Nat.{_-_}
 use native.Mathlib.Omega.{arith}
-use Rattle.marking.specs.Below.{someTo}
 use Rattle.marking.specs.Steps.{leadsTo}
-use Rattle.marking.proofs.Below.{some-none, some-more, some-at}
+use Rattle.marking.proofs.Below.{Searching, searching-none, searching-more, searching-found, searching-all}
 use Rattle.marking.proofs.leads_out.Statement.{statement}
 use Rattle.marking.proofs.leads_out.Tie as tie
 
 abbrev Inv-loop : tie.InvT-loop
-Inv-loop stay marks n x start j₀ j = (j ≤ n) × (start ≡ x * n) × (someTo j (leadsTo n stay marks x) ≡ false)
+Inv-loop stay marks n x start j₀ j = Searching n (leadsTo n stay marks x) j
 
 abbrev μ-loop : tie.MeasureT-loop
 μ-loop stay marks n x start j₀ j = n - j
 
-loop-holds : tie.Need-loop-holds Inv-loop μ-loop
-loop-holds c = (omega arith, refl, some-none _)
-
 returns : tie.Need-returns Inv-loop μ-loop
 returns c =
     let at-loop : tie.At-loop Inv-loop μ-loop = search in
-    sym (some-at _ _ (at-loop .loop .j) (omega arith) (rw (← at-loop .loop .inv .1) (c .if1 .taken)))
+    searching-found (at-loop .loop .inv) (omega arith) (c .if1 .taken)
 
 loop-again : tie.Need-loop-again Inv-loop μ-loop
 loop-again c =
     let at-loop : tie.At-loop Inv-loop μ-loop = search in
-    (omega arith, omega arith, some-more _ _ (at-loop .loop .inv .2) (rw (← at-loop .loop .inv .1) (c .if1 .left)))
-
-returns-2 : tie.Need-returns-2 Inv-loop μ-loop
-returns-2 c =
-    let done : c .before .loop .j ≡ c .before .before .args .n = omega arith in
-    sym (rw done at (c .before .loop .inv .2))
+    searching-more (at-loop .loop .inv) (omega arith) (c .if1 .left)
 
 pub leads-out-spec : {M : Type 1} → statement M
 leads-out-spec =
@@ -39,7 +30,7 @@ leads-out-spec =
     Inv-loop
     μ-loop
     (λ c. omega arith)
-    loop-holds
+    (λ c. searching-none)
     (λ c. omega arith)
     (λ c. omega arith)
     (λ c. omega arith)
@@ -49,4 +40,4 @@ leads-out-spec =
     (λ c. omega arith)
     (λ c. omega arith)
     loop-again
-    returns-2)
+    (λ c. searching-all (c .before .loop .inv) (omega arith)))

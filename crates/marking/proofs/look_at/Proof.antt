@@ -1,3 +1,6 @@
+-- `marking::look_at` meets its contract: three ways out. The mark of x is not 2, or x does not lead out: the marks stay as they are (`Left`). Else the mark
+-- becomes 0 (`Freed`). The part of the contract for the other answer has nothing to show, since true is not false. `leads_out` asks that row x lies in `stay`
+-- (`row-in`). No loop.
 use borrow.Author.Tests.{not-true, not-false}
 use mathlib.Core.Bool.{false≢true, true≢false}
 use mathlib.Core.Path.{refl, sym, _∙_}

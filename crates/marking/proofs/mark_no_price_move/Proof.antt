@@ -1,3 +1,6 @@
+-- `marking::mark_no_price_move` meets its contract: first marks by the states' own rows, then turns until one frees no state. Invariant: the marks come from
+-- the first marks by freeing states one after another (`Led`). The measure is the number of states with mark 2: a turn that frees a state brings it down. The
+-- way out: the last turn freed none, so no state with mark 2 leads out, and the marks say what is so of every path (`all-marked`).
 use mathlib.Core.Path.{_≡_, refl}
 use lib.ListN.{length}
 use denote.Ref.{now}

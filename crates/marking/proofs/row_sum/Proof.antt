@@ -1,3 +1,6 @@
+-- `marking::row_sum` meets its contract: a loop that adds the cells of row x. Invariant: the sum is that of the first j cells. The measure is n less j. No
+-- addition passes the limit of the type: the sum of the first cells is at most that of the whole row (`sum-part`), which the contract requires to be at most
+-- 2^53.
 use mathlib.Core.Path.{_≡_, refl, sym}
 use Prim.Native.Nat.{_≤_, _-_, _+_, _*_}
 use denote.Ref.{now}

@@ -1,3 +1,6 @@
+-- `marking::turn` meets its contract: one turn through the states, which frees those that lead out. Invariant (`Pass`): the marks come from those at entry by
+-- freeing states; if one was freed, fewer have mark 2; if none was, no state below x with mark 2 leads out. A state that is freed (`pass-freed`) and one that
+-- is left (`pass-left`) keep it. The measure is n less x. At the way out x is n (`pass-end`).
 use mathlib.Core.Logic.{⊎-elim}
 use Prim.Native.Nat.{_≤_, _-_}
 use denote.Ref.{now}

@@ -1,3 +1,4 @@
+-- `mirrored::are_opposite` meets its contract, which has the same two cases as the code: a = 0 and a ≠ 0. Each way out rewrites the test to its outcome.
 use borrow.Author.Tests.{eq-eqb, ne-eqb}
 use borrow.Author.Needs.{needs}
 use Rattle.mirrored.proofs.are_opposite.Statement.{statement}

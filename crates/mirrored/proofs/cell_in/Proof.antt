@@ -1,3 +1,5 @@
+-- `mirrored::cell_in` meets its contract: an imaged table is read of the bytes, and word i of 8n bytes is cell i (`cell-imaged`); else the slice is the table,
+-- and the test alone decides. What `Holds` says of the table's length, in bytes or in the slice, keeps each read inside.
 use native.Mathlib.Omega.{arith}
 use Rattle.mirrored.proofs.Readings.{cell-imaged}
 use Rattle.mirrored.proofs.cell_in.Statement.{statement}

@@ -1,3 +1,4 @@
+-- `mirrored::cells_alike` meets its contract: both cells are what `cell_in` answers of them, so the comparison of the answers is that of the cells.
 use borrow.Author.Needs.{needs}
 use Rattle.mirrored.proofs.cells_alike.Statement.{statement}
 use Rattle.mirrored.proofs.cells_alike.Tie as tie

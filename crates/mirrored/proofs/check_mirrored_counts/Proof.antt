@@ -1,3 +1,5 @@
+-- `mirrored::check_mirrored_counts` meets its contract: the check of tables that are not imaged, so that `tablesIn` is the lent tables by computation. What is
+-- left is that the tables lie in the slices (`lent`, with the lengths that the contract requires); the bytes are not looked at.
 use borrow.Author.Needs.{needs}
 use Rattle.mirrored.proofs.Readings.{lent}
 use Rattle.mirrored.proofs.check_mirrored_counts.Statement.{statement}

@@ -1,3 +1,5 @@
+-- `mirrored::check_state` meets its contract: refused by 9 (the total), by 10 (the row), or not. Each way out rewrites the answers and tests before it. The
+-- mirror of i is below n because the table of mirrors holds numbers below n, so its total is there too.
 use borrow.Author.Needs.{needs}
 use Rattle.mirrored.proofs.check_state.Statement.{statement}
 use Rattle.mirrored.proofs.check_state.Tie as tie

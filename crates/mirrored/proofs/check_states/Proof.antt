@@ -1,3 +1,6 @@
+-- `mirrored::check_states` meets its contract: it finds the first state that refuses. Loop over i, measure n − i; invariant: the answer for all n states is the
+-- answer for those from i on. A state that refuses ends the walk (`first-stop`), one that does not leaves the rest (`first-step`), and of no state left nothing
+-- is refused (`first-end`).
 use Prim.Native.Nat.{ℕ, _-_}
 use mathlib.Core.Path.{_≡_, ap, _∙_, sym}
 use mathlib.Core.Bool.{Bool}

@@ -1,3 +1,6 @@
+-- `mirrored::check_tables` meets its contract: the check by a table of mirrors is the check by `mirrorOf`, since both agree on the states of the configuration
+-- (`check-by`). `check_counts` asks that the table holds 256 numbers, at least one for each state, and that each is below the number of states
+-- (`mirrors-known`).
 use native.Mathlib.Omega.{arith}
 use borrow.Author.Needs.{needs}
 use Rattle.config.specs.Configuration.{states}

@@ -1,3 +1,5 @@
+-- `mirrored::mirrors_of` meets its contract: each state below N gets its mirror. Loop over i, measure N − i; invariant: the array has 256 places, and those
+-- below i hold the mirrors (`filled-by` adds one). N is at most 256, so that each store is inside the array; at the end i has reached N.
 use Prim.Native.Nat.{ℕ, _-_, _<_}
 use mathlib.Core.Path.{_≡_, refl, _∙_}
 use native.Mathlib.Omega.{arith}

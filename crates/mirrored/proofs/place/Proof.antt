@@ -1,3 +1,4 @@
+-- `mirrored::place` meets its contract: with i and j below n the flat place i·n + j is below n·n (`flat-below`). With n at most 256 nothing overflows.
 use mathlib.Core.Path.{refl}
 use native.Mathlib.Nat.{mul-le-mul}
 use native.Mathlib.Omega.{arith}

@@ -1,3 +1,6 @@
+-- `mirrored::row_mirrored` meets its contract: whether all cells of row i equal their mirrors'. Loop over j, measure n − j; invariant: the whole row is
+-- mirrored exactly if its cells from j on are. A turn's two comparisons are the specified test of cell j (`alike`, by `cell-is`): where it fails the row fails
+-- (`all-stop`), else the walk goes on (`all-step`), and with no cell left it holds (`all-end`). Places are inside the tables because mirrors are below n.
 use Prim.Native.Nat.{ℕ, _-_}
 use mathlib.Core.Bool.{Bool, _&&_}
 use mathlib.Core.Path.{_≡_, ap, _∙_, sym}

@@ -1,3 +1,5 @@
+-- `mirrored::sum_capped` meets its contract: a sum of n cells, cut off at 2^53 + 1. Loop over i, measure n − i; invariant: the sum so far, at most the cap, and
+-- the cells from i on make, cut off, the sum of all cells, cut off. `sum-step` adds one cell; at the end no cell is left (`sum-end`).
 use Prim.Native.Nat.{_+_, _-_, _≤_, min}
 use mathlib.Core.Path.{_≡_, ap, _∙_}
 use native.Mathlib.Omega.{arith}

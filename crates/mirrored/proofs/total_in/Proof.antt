@@ -1,3 +1,5 @@
+-- `mirrored::total_in` meets its contract: an imaged total is word i of the bytes, and that word is the total's own (`total-imaged`); else `word_of` answers
+-- it. What `Holds` says of the table's length, in bytes or in the slice, keeps each read inside.
 use native.Mathlib.Omega.{arith}
 use Rattle.mirrored.proofs.Readings.{total-imaged}
 use Rattle.mirrored.proofs.total_in.Statement.{statement}

@@ -1,3 +1,5 @@
+-- `mirrored::total_mirrored` meets its contract: both words are those of their totals, and two words are opposite exactly if one total is the other negated
+-- (`opposite-is`).
 use mathlib.Core.Path.{_∙_}
 use borrow.Author.Needs.{needs}
 use Rattle.mirrored.proofs.Totals.{opposite-is}

@@ -1,3 +1,6 @@
+-- `mirrored::totals_over` meets its contract: whether a total is over its limit. Loop over i, measure n − i; invariant: a total is over exactly if one from i
+-- on is. A turn's test of the word is the test of the total (`over`, by `over-is`): where it is over the answer is known (`any-stop`), else the rest decides
+-- (`any-step`), and of no total left none is over (`any-end`).
 use Prim.Native.Nat.{_-_}
 use mathlib.Core.Path.{_≡_, refl, sym, _∙_}
 use mathlib.Core.Bool.{not}

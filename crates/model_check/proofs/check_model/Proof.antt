@@ -1,57 +1,54 @@
-use mathlib.Core.Path.{_≡_, sym, ap, _∙_}
-use mathlib.Core.Bool.{true}
-use Prim.Native.Nat.{ℕ, _*_}
+-- `model_check::check_model` meets its contract: the configuration is judged, then the table's length, then the rows. No loop. The ways out are a bad
+-- configuration (`config-bad`), another length than seven words a state (`length-bad`), else what `check_rows` answers (`next-judges`). The callees ask a valid
+-- configuration (`config-good`) and a table of its length (`length-good`); 7 × n fits a word since there are at most 256 states.
+use mathlib.Core.Path.{ap, _∙_}
 use native.Mathlib.Omega.{arith}
-use lib.ListN.{length}
 use borrow.Author.Needs.{needs}
-use borrow.Author.Tests.{not-true, not-false, eq-eqb, ne-eqb}
-use Rattle.config.specs.Configuration.{states, valid}
+use Rattle.refusals.specs.Refusals.{firstFrom}
 use Rattle.config.specs.Known.{Valid}
-use Rattle.config.proofs.Known.{valid-known}
+use Rattle.model_check.specs.Check.{checkRow}
+use Rattle.model_check.proofs.Judged.{config-bad, config-good, length-bad, length-good, next-judges}
 use Rattle.model_check.proofs.check_model.Statement.{statement}
 use Rattle.model_check.proofs.check_model.Tie as tie
 
-is-valid-requires : tie.Need-is-valid-requires
-is-valid-requires c κs = search needs
-
 returns : tie.Need-returns
-returns c = rw (← c .before .is-valid .ensures, not-true (c .before .is-valid .result) (c .if1 .taken))
-
-fine : (c : tie.Else1) → valid (c .before .before .before .args .config) ≡ true
-fine c = sym (c .before .is-valid .ensures) ∙ not-false _ (c .if1 .left)
+returns c =
+    let a = c .before .before .before .args in
+    config-bad (a .config) (c .before .is-valid .ensures) (a .table .now) _ (c .if1 .taken)
 
 known : (c : tie.Else1) → Valid (c .before .before .before .args .config)
-known c = valid-known (c .before .before .before .args .config) (fine c)
-
-state-count-requires : tie.Need-state-count-requires
-state-count-requires c κs = known c
-
-mul-if2 : tie.Need-mul-if2
-mul-if2 c = omega (arith, c .state-count .ensures, known (c .before) .states-most)
+known c = config-good (c .before .before .before .args .config) (c .before .is-valid .ensures) (c .if1 .left)
 
 returns-2 : tie.Need-returns-2
-returns-2 c = rw (fine (c .before .before), ← c .before .state-count .ensures, ne-eqb _ _ (c .if2 .taken))
-
--- the table has its length
-long : (c : tie.Else2) → let a = c .before .before .before .before .before .args in length (a .table .now) ≡ 7 * states (a .config)
-long c = c .if2 .left ∙ ap (λ (n : ℕ). 7 * n) (c .before .state-count .ensures)
+returns-2 c =
+    let at-else1 : tie.Else1 = search in
+    let a = at-else1 .before .before .before .args in
+    length-bad (a .config) (a .table .now) _ (at-else1 .before .is-valid .ensures) (at-else1 .if1 .left) (c .before .state-count .ensures) (c .if2 .taken)
 
 check-rows-requires : tie.Need-check-rows-requires
-check-rows-requires c κs = (known (c .before .before), long c, c .before .state-count .ensures)
+check-rows-requires c κs =
+    let at-else1 : tie.Else1 = search in
+    let a = at-else1 .before .before .before .args in
+    let count = c .before .state-count .ensures in
+    (known at-else1, length-good (a .config) (a .table .now) count (c .if2 .left), count)
 
 returns-3 : tie.Need-returns-3
 returns-3 c =
-    rw (fine (c .before .before .before), eq-eqb _ _ (long (c .before)), ← c .before .before .state-count .ensures)
-    (c .check-rows .ensures)
+    let at-else1 : tie.Else1 = search in
+    let a = at-else1 .before .before .before .args in
+    let count = c .before .before .state-count .ensures in
+    c .check-rows .ensures
+    ∙ ap (firstFrom (checkRow (a .config) (a .table .now)) 0) count
+    ∙ next-judges (a .config) (a .table .now) _ (at-else1 .before .is-valid .ensures) (at-else1 .if1 .left) count (c .before .if2 .left)
 
 pub check-model-spec : {M : Type 1} → statement M
 check-model-spec =
     tie.close
     (tie.spec
-    is-valid-requires
+    (λ c κs. search needs)
     returns
-    state-count-requires
-    mul-if2
+    (λ c κs. known c)
+    (λ c. omega (arith, c .state-count .ensures, known (c .before) .states-most))
     returns-2
     check-rows-requires
     returns-3)

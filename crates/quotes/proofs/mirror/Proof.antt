@@ -1,3 +1,5 @@
+-- `quotes::mirror` meets its contract: no state for an invalid configuration or a number that is not below the count of states, as the definition has them;
+-- else `mirror_of`. A valid configuration (`valid-known`) has from 3 to 256 buckets and at most 256 states, which is what `mirror_of` asks. No loop.
 use mathlib.Core.Path.{sym, _∙_}
 use native.Mathlib.Omega.{arith}
 use borrow.Author.Tests.{not-true, not-false, lt-ltb, le-ltb}

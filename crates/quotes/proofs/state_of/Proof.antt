@@ -1,3 +1,6 @@
+-- `quotes::state_of` meets its contract: the configuration's refusal comes first, then the quote's, then the place, as the definition has them, so each way out
+-- is the definition with the tests before it decided. What the calls ask is what the passed tests say: a valid configuration (`valid-known`), an accepted quote
+-- (`fine-known`). No loop.
 use borrow.Author.Tests.{not-true, not-false}
 use Rattle.config.proofs.Known.{valid-known}
 use Rattle.quotes.proofs.Known.{fine-known}

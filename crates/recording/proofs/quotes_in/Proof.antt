@@ -1,5 +1,9 @@
+-- `recording::quotes_in` meets its contract: the words from 5 times the first end up to 5 times the other are the part that the definition takes. That the two
+-- products are within a word and the slice within the recording is one fact: the ends of any window lie in order in the recording (`ends-known`, here `lies`).
+use Prim.Native.Nat.{_/_, _≤_}
 use mathlib.Core.Path.{_≡_, refl, ap, _∙_}
 use native.Mathlib.Omega.{arith}
+use lib.ListN.{length}
 use Rattle.recording.specs.Window.{windowOf, partEnds, partOf}
 use Rattle.recording.specs.declared.Ends.{Ends}
 use Rattle.recording.proofs.Windows.{ends-known}
@@ -7,76 +11,15 @@ use borrow.Author.Needs.{needs}
 use Rattle.recording.proofs.quotes_in.Statement.{statement}
 use Rattle.recording.proofs.quotes_in.Tie as tie
 
-mul-from : tie.Need-mul-from
-mul-from c =
+-- the ends lie in order in the recording
+lies : (c : tie.After-part-ends)
+    → (c .part-ends .result .first ≤ c .part-ends .result .past) × (c .part-ends .result .past ≤ length (c .before .before .before .args .recording .now) / 5)
+lies c =
     let at-window-of : tie.After-window-of = search in
     let at-start : tie.Start = search in
-    omega (
-      arith,
-      ends-known (at-start .args .recording .now) (at-start .args .start) (at-start .args .end) (at-window-of .window-of .result)
-          (c .before .part-ends .result) (at-window-of .window-of .ensures) (c .before .part-ends .ensures),
-      at-start .good,
-    )
-
-mul-to : tie.Need-mul-to
-mul-to c =
-    let at-part-ends : tie.After-part-ends = search in
-    let at-window-of : tie.After-window-of = search in
-    let at-start : tie.Start = search in
-    omega (
-      arith,
-      ends-known (at-start .args .recording .now) (at-start .args .start) (at-start .args .end) (at-window-of .window-of .result)
-          (at-part-ends .part-ends .result) (at-window-of .window-of .ensures) (at-part-ends .part-ends .ensures),
-      at-start .good,
-    )
-
-mul-result : tie.Need-mul-result
-mul-result c =
-    let at-part-ends : tie.After-part-ends = search in
-    let at-window-of : tie.After-window-of = search in
-    let at-start : tie.Start = search in
-    omega (
-      arith,
-      ends-known (at-start .args .recording .now) (at-start .args .start) (at-start .args .end) (at-window-of .window-of .result)
-          (at-part-ends .part-ends .result) (at-window-of .window-of .ensures) (at-part-ends .part-ends .ensures),
-      at-start .good,
-    )
-
-sub-result : tie.Need-sub-result
-sub-result c =
-    let at-part-ends : tie.After-part-ends = search in
-    let at-window-of : tie.After-window-of = search in
-    let at-start : tie.Start = search in
-    omega (
-      arith,
-      ends-known (at-start .args .recording .now) (at-start .args .start) (at-start .args .end) (at-window-of .window-of .result)
-          (at-part-ends .part-ends .result) (at-window-of .window-of .ensures) (at-part-ends .part-ends .ensures),
-      at-start .good,
-    )
-
-part-result-start : tie.Need-part-result-start
-part-result-start c =
-    let at-part-ends : tie.After-part-ends = search in
-    let at-window-of : tie.After-window-of = search in
-    let at-start : tie.Start = search in
-    omega (
-      arith,
-      ends-known (at-start .args .recording .now) (at-start .args .start) (at-start .args .end) (at-window-of .window-of .result)
-          (at-part-ends .part-ends .result) (at-window-of .window-of .ensures) (at-part-ends .part-ends .ensures),
-      at-start .good,
-    )
-
-part-result-end : tie.Need-part-result-end
-part-result-end c =
-    let at-part-ends : tie.After-part-ends = search in
-    let at-window-of : tie.After-window-of = search in
-    let at-start : tie.Start = search in
-    omega (
-      arith,
-      ends-known (at-start .args .recording .now) (at-start .args .start) (at-start .args .end) (at-window-of .window-of .result)
-          (at-part-ends .part-ends .result) (at-window-of .window-of .ensures) (at-part-ends .part-ends .ensures),
-      at-start .good,
-    )
+    let a = at-start .args in
+    ends-known (a .recording .now) (a .start) (a .end) (at-window-of .window-of .result) (c .part-ends .result) (at-window-of .window-of .ensures)
+    (c .part-ends .ensures)
 
 returns : tie.Need-returns
 returns c =
@@ -99,10 +42,10 @@ quotes-in-spec =
     (tie.spec
     (λ c κs. search needs)
     (λ c κs. search needs)
-    mul-from
-    mul-to
-    mul-result
-    sub-result
-    part-result-start
-    part-result-end
+    (λ c. omega (arith, lies (c .before)))
+    (λ c. let at-part-ends : tie.After-part-ends = search in omega (arith, lies at-part-ends))
+    (λ c. let at-part-ends : tie.After-part-ends = search in omega (arith, lies at-part-ends))
+    (λ c. let at-part-ends : tie.After-part-ends = search in omega (arith, lies at-part-ends))
+    (λ c. let at-part-ends : tie.After-part-ends = search in omega (arith, lies at-part-ends))
+    (λ c. let at-part-ends : tie.After-part-ends = search in omega (arith, lies at-part-ends))
     returns)

@@ -1,11 +1,9 @@
+-- `refusals::row_or` meets its contract: where the refusal is 13 its row is the answer; of any other, known by its tag, `rowOr` is the row given (`row-kept`).
 use mathlib.Core.Path.{sym}
 use borrow.Author.Needs.{needs}
 use Rattle.refusals.proofs.Rows.{row-kept}
 use Rattle.refusals.proofs.row_or.Statement.{statement}
 use Rattle.refusals.proofs.row_or.Tie as tie
-
-enum-known-r : tie.Need-enum-known-r
-enum-known-r c = search needs
 
 returns : tie.Need-returns
 returns c = sym (row-kept (c .before .args .r) (c .before .args .row) (c .match .keys2))
@@ -14,4 +12,4 @@ returns-2 : tie.Need-returns-2
 returns-2 c = rw (c .before .r .given .1)
 
 pub row-or-spec : {M : Type 1} → statement M
-row-or-spec = tie.close (tie.spec enum-known-r returns returns-2)
+row-or-spec = tie.close (tie.spec (λ c. search needs) returns returns-2)

@@ -1,15 +1,7 @@
+-- `report::config_of` meets its contract: the three calls, one after another, are the three parts of `configOf`; each promises its part. No loop.
 use borrow.Author.Needs.{needs}
 use Rattle.report.proofs.config_of.Statement.{statement}
 use Rattle.report.proofs.config_of.Tie as tie
-
-new-requires : tie.Need-new-requires
-new-requires c κs = search needs
-
-with-min-state-observations-requires : tie.Need-with-min-state-observations-requires
-with-min-state-observations-requires c κs = search needs
-
-with-max-quote-gap-ms-requires : tie.Need-with-max-quote-gap-ms-requires
-with-max-quote-gap-ms-requires c κs = search needs
 
 returns : tie.Need-returns
 returns c = rw (c .with-max-quote-gap-ms .ensures, c .before .with-min-state-observations .ensures, c .before .before .new .ensures)
@@ -18,7 +10,7 @@ pub config-of-spec : {M : Type 1} → statement M
 config-of-spec =
     tie.close
     (tie.spec
-    new-requires
-    with-min-state-observations-requires
-    with-max-quote-gap-ms-requires
+    (λ c κs. search needs)
+    (λ c κs. search needs)
+    (λ c κs. search needs)
     returns)

@@ -1,3 +1,4 @@
+-- `report::product` meets its contract: a × b is at most 27 × 64, so it is a word (`fits-mul`), and at most 27 × b (`mul-le-mul`).
 use native.Mathlib.Omega.{arith}
 use native.Mathlib.Nat.{mul-le-mul}
 use mathlib.Core.Path.{refl}

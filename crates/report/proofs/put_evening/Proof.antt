@@ -1,45 +1,32 @@
+-- `report::put_evening` meets its contract: `run_evening` says that the evening is that of the request, `put_outcome` that the lines of its answer, counters
+-- and model stand in the output; `outcome-text` puts the one into the other. No loop. The memory of zeros that `run_evening` asks for is the contract's, with N
+-- for n.
 use Rattle.report.proofs.Evenings.{outcome-text}
 use borrow.Author.Needs.{needs}
 use Rattle.report.proofs.put_evening.Statement.{statement}
 use Rattle.report.proofs.put_evening.Tie as tie
 
 run-evening-requires : tie.Need-run-evening-requires
-run-evening-requires c κs = rw (← c .before .before .before .before .before .before .before .before .before .before .before .pre .0) (c .before .before .before .before .before .before .before .before .before .before .before .pre .3)
-
-put-outcome-requires : tie.Need-put-outcome-requires
-put-outcome-requires c κs = search needs
-
-same-length : tie.Need-same-length
-same-length c = search needs
-
-same-length-2 : tie.Need-same-length-2
-same-length-2 c = search needs
-
-same-length-3 : tie.Need-same-length-3
-same-length-3 c = search needs
-
-same-length-4 : tie.Need-same-length-4
-same-length-4 c = search needs
-
-same-length-5 : tie.Need-same-length-5
-same-length-5 c = search needs
-
-same-length-6 : tie.Need-same-length-6
-same-length-6 c = search needs
+run-evening-requires c κs =
+    let at-start : tie.Start = search in
+    rw (← at-start .pre .0) (at-start .pre .3)
 
 returns : tie.Need-returns
-returns c = outcome-text (c .before .before .before .before .before .before .before .before .before .before .before .before .before .before .before .before .before .before .before .before .before .before .before .before .before .before .before .before .pre .0) (c .before .before .before .before .before .before .before .before .before .before .before .before .before .before .before .before .run-evening .ensures) (c .before .before .put-outcome .ensures)
+returns c =
+    let at-run-evening : tie.After-run-evening = search in
+    let at-start : tie.Start = search in
+    outcome-text (at-start .pre .0) (at-run-evening .run-evening .ensures) (c .before .before .put-outcome .ensures)
 
 pub put-evening-spec : {M : Type 1} → statement M
 put-evening-spec =
     tie.close
     (tie.spec
     run-evening-requires
-    put-outcome-requires
-    same-length
-    same-length-2
-    same-length-3
-    same-length-4
-    same-length-5
-    same-length-6
+    (λ c κs. search needs)
+    (λ c. search needs)
+    (λ c. search needs)
+    (λ c. search needs)
+    (λ c. search needs)
+    (λ c. search needs)
+    (λ c. search needs)
     returns)

@@ -1,91 +1,69 @@
+-- `report::put_text` meets its contract. The ways out: bad input, whose line is written (`bad-text`); a request, whose evening is written (`request-text`). No
+-- loop. A request that is read is admissible (`asked-few`): at most 1,000 quotes, so their words lie in the recording's 5,000, and n × s ≤ 27, which
+-- `put_request` asks for.
 use mathlib.Core.Path.{sym}
+use Prim.Native.Nat.{_*_, _≤_}
 use native.Mathlib.Omega.{arith}
 use lib.Seq.{length-take-le}
-use Rattle.text.specs.Reading.{bad}
-use Rattle.lines.proofs.Within.{bytes-in, loosely}
-use Rattle.report.proofs.Texts.{asked-by, bad-by, text-by}
+use Rattle.report.proofs.Texts.{asked-few, bad-text, request-text}
 use borrow.Author.Needs.{needs}
 use Rattle.report.proofs.put_text.Statement.{statement}
 use Rattle.report.proofs.put_text.Tie as tie
 
-read-text-requires : tie.Need-read-text-requires
-read-text-requires c κs = search needs
-
-enum-told : tie.Need-enum-told
-enum-told c = search needs
-
-slice-aggregate-put-bytes : tie.Need-slice-aggregate-put-bytes
-slice-aggregate-put-bytes c = search needs
-
-put-bytes-requires : tie.Need-put-bytes-requires
-put-bytes-requires c κs = search needs
-
-enum-known-found : tie.Need-enum-known-found
-enum-known-found c = search needs
+-- the request that was found is for at most 1,000 quotes and 27 states
+few : (c : tie.After-found) → let q = c .found .given .0 .0 in (q .quotes ≤ 1000) × (q .buckets * q .«spread_states» ≤ 27)
+few c =
+    let at-read-text : tie.After-read-text = search in
+    let at-start : tie.Start = search in
+    asked-few (at-start .args .input .now) (at-read-text .read-text .ensures) (c .found .given .1) (at-start .pre .1)
 
 mul-words : tie.Need-mul-words
-mul-words c =
-    let s = c .before .before .before .before .before .before .before .before .before .before .before in
-    let t = asked-by (s .args .input .now) (s .args .recording .now) _ _ (c .before .before .before .before .before .before .read-text .ensures) (c .before .before .found .given .1) (s .pre .1) in
-    omega (arith, t .1 .few)
+mul-words c = omega (arith, few (c .before .before) .0)
 
 slice-reshare-prefix-put-request : tie.Need-slice-reshare-prefix-put-request
-slice-reshare-prefix-put-request c =
-    let s = c .before .before .before .before .before .before .before .before .before .before .before .before in
-    let t = asked-by (s .args .input .now) (s .args .recording .now) _ _ (c .before .before .before .before .before .before .before .read-text .ensures) (c .before .before .before .found .given .1) (s .pre .1) in
-    omega (arith, t .1 .few)
+slice-reshare-prefix-put-request c = omega (arith, few (c .before .before .before) .0)
 
 slice-aggregate-put-request : tie.Need-slice-aggregate-put-request
 slice-aggregate-put-request c =
-    let s = c .before .before .before .before .before .before .before .before .before .before .before .before .before in
-    let t = asked-by (s .args .input .now) (s .args .recording .now) _ _ (c .before .before .before .before .before .before .before .before .read-text .ensures) (c .before .before .before .before .found .given .1) (s .pre .1) in
-    sym (length-take-le _ _ (omega (arith, t .1 .few)))
+    let at-found : tie.After-found = search in
+    sym (length-take-le _ _ (omega (arith, few at-found .0)))
 
 put-request-requires : tie.Need-put-request-requires
 put-request-requires c κs =
-    let s = c .before .before .before .before .before .before .before .before .before .before .before .before .before in
-    let t = asked-by (s .args .input .now) (s .args .recording .now) _ _ (c .before .before .before .before .before .before .before .before .read-text .ensures) (c .before .before .before .before .found .given .1) (s .pre .1) in
-    (t .1 .states, omega arith)
-
-same-length : tie.Need-same-length
-same-length c = search needs
-
-same-length-2 : tie.Need-same-length-2
-same-length-2 c = search needs
+    let at-found : tie.After-found = search in
+    (few at-found .1, omega arith)
 
 returns : tie.Need-returns
 returns c =
-    let s = c .before .before .before .before .before .before .before .before .before .before .before .before .before .before in
-    text-by (s .args .input .now) bad (bad-by (s .args .input .now) (s .args .recording .now) _ _ (c .before .before .before .before .before .before .before .before .before .read-text .ensures) (c .before .before .before .before .before .enum-told .given .1)) (loosely (omega arith) (bytes-in (c .before .before .put-bytes .ensures)))
-
-same-length-3 : tie.Need-same-length-3
-same-length-3 c = search needs
-
-same-length-4 : tie.Need-same-length-4
-same-length-4 c = search needs
+    let at-enum-told : tie.After-enum-told = search in
+    let at-read-text : tie.After-read-text = search in
+    let at-start : tie.Start = search in
+    bad-text (at-start .args .input .now) (at-read-text .read-text .ensures) (at-enum-told .enum-told .given .1) (c .before .before .put-bytes .ensures)
 
 returns-2 : tie.Need-returns-2
 returns-2 c =
-    let s = c .before .before .before .before .before .before .before .before .before .before .before .before .before .before .before .before in
-    let t = asked-by (s .args .input .now) (s .args .recording .now) _ _ (c .before .before .before .before .before .before .before .before .before .before .before .read-text .ensures) (c .before .before .before .before .before .before .before .found .given .1) (s .pre .1) in
-    text-by (s .args .input .now) _ (t .0) (c .before .before .put-request .ensures)
+    let at-found : tie.After-found = search in
+    let at-read-text : tie.After-read-text = search in
+    let at-start : tie.Start = search in
+    request-text (at-start .args .input .now) (at-read-text .read-text .ensures) (at-found .found .given .1) (at-start .pre .1)
+    (c .before .before .put-request .ensures)
 
 pub put-text-spec : {M : Type 1} → statement M
 put-text-spec =
     tie.close
     (tie.spec
-    read-text-requires
-    enum-told
-    slice-aggregate-put-bytes
-    put-bytes-requires
-    enum-known-found
+    (λ c κs. search needs)
+    (λ c. search needs)
+    (λ c. search needs)
+    (λ c κs. search needs)
+    (λ c. search needs)
     mul-words
     slice-reshare-prefix-put-request
     slice-aggregate-put-request
     put-request-requires
-    same-length
-    same-length-2
+    (λ c. search needs)
+    (λ c. search needs)
     returns
-    same-length-3
-    same-length-4
+    (λ c. search needs)
+    (λ c. search needs)
     returns-2)

@@ -1,77 +1,79 @@
-use mathlib.Core.Path.{_≡_, sym, ap, _∙_}
-use mathlib.Core.Bool.{true}
-use Prim.Native.Nat.{ℕ, _*_}
+-- `signals::signal` meets its contract: the configuration is judged, then the table's length, then the quote; a quote that is fine has its signal. No loop.
+-- Four ways out: a bad configuration (`config-bad`), another length (`length-bad`), what `check_quote` refuses (`next-judges`) are refused (`signal-refused`),
+-- else what `signal_at` answers is sent (`signal-sent`). `signal_at` asks a valid configuration, a table of its length and an accepted quote (`fine-known`).
+use mathlib.Core.Path.{_≡_, sym, _∙_}
 use native.Mathlib.Omega.{arith}
-use lib.ListN.{length}
 use borrow.Author.Needs.{needs}
-use borrow.Author.Tests.{not-true, not-false, eq-eqb, ne-eqb}
-use Rattle.config.specs.Configuration.{states, valid}
 use Rattle.config.specs.Known.{Valid}
-use Rattle.config.proofs.Known.{valid-known}
 use Rattle.quotes.proofs.Known.{fine-known}
+use Rattle.model_check.proofs.Judged.{config-bad, config-good, length-bad, length-good, next-judges}
+use Rattle.signals.specs.Signal.{signalRefusal}
+use Rattle.signals.proofs.Answers.{signal-refused, signal-sent}
 use Rattle.signals.proofs.signal.Statement.{statement}
 use Rattle.signals.proofs.signal.Tie as tie
 
-is-valid-requires : tie.Need-is-valid-requires
-is-valid-requires c κs = search needs
-
 returns : tie.Need-returns
-returns c = rw (← c .before .is-valid .ensures, not-true (c .before .is-valid .result) (c .if1 .taken))
-
-fine : (c : tie.Else1) → valid (c .before .before .before .args .config) ≡ true
-fine c = sym (c .before .is-valid .ensures) ∙ not-false _ (c .if1 .left)
+returns c =
+    let a = c .before .before .before .args in
+    signal-refused (a .config) (a .table .now) (a .quote) (config-bad (a .config) (c .before .is-valid .ensures) (a .table .now) _ (c .if1 .taken))
 
 known : (c : tie.Else1) → Valid (c .before .before .before .args .config)
-known c = valid-known (c .before .before .before .args .config) (fine c)
-
-state-count-requires : tie.Need-state-count-requires
-state-count-requires c κs = known c
-
-mul-if2 : tie.Need-mul-if2
-mul-if2 c = omega (arith, c .state-count .ensures, known (c .before) .states-most)
+known c = config-good (c .before .before .before .args .config) (c .before .is-valid .ensures) (c .if1 .left)
 
 returns-2 : tie.Need-returns-2
-returns-2 c = rw (fine (c .before .before), ← c .before .state-count .ensures, ne-eqb _ _ (c .if2 .taken))
+returns-2 c =
+    let at-else1 : tie.Else1 = search in
+    let a = at-else1 .before .before .before .args in
+    signal-refused (a .config) (a .table .now) (a .quote)
+    (length-bad (a .config) (a .table .now) _ (at-else1 .before .is-valid .ensures) (at-else1 .if1 .left) (c .before .state-count .ensures) (c .if2 .taken))
 
--- the table has its length
-long : (c : tie.Else2) → let a = c .before .before .before .before .before .args in length (a .table .now) ≡ 7 * states (a .config)
-long c = c .if2 .left ∙ ap (λ (n : ℕ). 7 * n) (c .before .state-count .ensures)
-
-check-quote-requires : tie.Need-check-quote-requires
-check-quote-requires c κs = known (c .before .before) .tick-least
-
-enum-known-checked : tie.Need-enum-known-checked
-enum-known-checked c = search needs
-
-enum-told : tie.Need-enum-told
-enum-told c = search needs
+-- what the quote's check answers is the first refusal of all
+judged : (c : tie.After-check-quote) → let at-start : tie.Start = search in let a = at-start .args in
+    c .check-quote .result ≡ signalRefusal (a .config) (a .table .now) (a .quote)
+judged c =
+    let at-else1 : tie.Else1 = search in
+    let a = at-else1 .before .before .before .args in
+    c .check-quote .ensures
+    ∙ next-judges (a .config) (a .table .now) _ (at-else1 .before .is-valid .ensures) (at-else1 .if1 .left) (c .before .before .state-count .ensures)
+    (c .before .if2 .left)
 
 signal-at-requires : tie.Need-signal-at-requires
 signal-at-requires c κs =
-    let q = c .before .before .check-quote in
-    (known (c .before .before .before .before .before), long (c .before .before .before), fine-known _ _ (sym (q .ensures) ∙ c .enum-told .given .1))
+    let at-check-quote : tie.After-check-quote = search in
+    let at-else2 : tie.Else2 = search in
+    let at-else1 : tie.Else1 = search in
+    let a = at-else1 .before .before .before .args in (
+      known at-else1,
+      length-good (a .config) (a .table .now) (at-else2 .before .state-count .ensures) (at-else2 .if2 .left),
+      fine-known (a .config) (a .quote) (sym (at-check-quote .check-quote .ensures) ∙ c .enum-told .given .1),
+    )
 
 returns-3 : tie.Need-returns-3
 returns-3 c =
-    rw (fine (c .before .before .before .before .before .before), eq-eqb _ _ (long (c .before .before .before .before)), ← c .before .before .before .check-quote .ensures, c .before .checked .given .1)
+    let at-check-quote : tie.After-check-quote = search in
+    let at-start : tie.Start = search in
+    let a = at-start .args in
+    signal-refused (a .config) (a .table .now) (a .quote) (sym (c .before .checked .given .1) ∙ judged at-check-quote)
 
 returns-4 : tie.Need-returns-4
 returns-4 c =
-    rw (fine (c .before .before .before .before .before .before), eq-eqb _ _ (long (c .before .before .before .before)), ← c .before .before .before .check-quote .ensures, c .before .enum-told .given .1)
-    (c .signal-at .ensures)
+    let at-check-quote : tie.After-check-quote = search in
+    let at-start : tie.Start = search in
+    let a = at-start .args in
+    signal-sent (a .config) (a .table .now) (a .quote) (sym (c .before .enum-told .given .1) ∙ judged at-check-quote) (c .signal-at .ensures)
 
 pub signal-spec : {M : Type 1} → statement M
 signal-spec =
     tie.close
     (tie.spec
-    is-valid-requires
+    (λ c κs. search needs)
     returns
-    state-count-requires
-    mul-if2
+    (λ c κs. known c)
+    (λ c. omega (arith, c .state-count .ensures, known (c .before) .states-most))
     returns-2
-    check-quote-requires
-    enum-known-checked
-    enum-told
+    (λ c κs. known (c .before .before) .tick-least)
+    (λ c. search needs)
+    (λ c. search needs)
     signal-at-requires
     returns-3
     returns-4)

@@ -1,10 +1,8 @@
+-- `signed::distance` meets its contract: the smaller is taken from the larger, which is the size of a change down (`distance-down`) or up (`distance-up`).
 use Rattle.signed.proofs.Sums.{distance-down, distance-up}
 use borrow.Author.Needs.{needs}
 use Rattle.signed.proofs.distance.Statement.{statement}
 use Rattle.signed.proofs.distance.Tie as tie
-
-sub-result : tie.Need-sub-result
-sub-result c = search needs
 
 returns : tie.Need-returns
 returns c = distance-down _ _ (c .if1 .taken)
@@ -13,4 +11,4 @@ returns-2 : tie.Need-returns-2
 returns-2 c = distance-up _ _ (c .if1 .left)
 
 pub distance-spec : {M : Type 1} → statement M
-distance-spec = tie.close (tie.spec sub-result returns returns-2)
+distance-spec = tie.close (tie.spec (λ c. search needs) returns returns-2)

@@ -1,30 +1,21 @@
+-- `signed::fits_at` meets its contract. A total over 2^54 in size stays outside the limit whatever change of two such mids is added, so the answer is false
+-- (`far`). Any other is smaller than 2^60 (`near`): neither the difference of the mids (`change-fits`) nor the sum (`sum-fits`) overflows, the sum is the total
+-- with the change (`sum-is`), and `is_within` judges it.
 use mathlib.Core.Path.{sym, ap, _∙_}
 use native.Mathlib.Omega.{arith}
 use lib.ListN.{getD}
 use lib.IntN.{pos}
 use Rattle.signed.specs.Totals.{within, change}
-use Rattle.signed.proofs.Sums.{back, far, near, change-size, change-fits, sum-fits, sum-is}
+use Rattle.signed.proofs.Sums.{far, near, change-size, change-fits, sum-fits, sum-is}
 use borrow.Author.Needs.{needs}
 use Rattle.signed.proofs.fits_at.Statement.{statement}
 use Rattle.signed.proofs.fits_at.Tie as tie
-
-mul-total : tie.Need-mul-total
-mul-total c = search needs
-
-shared-slice-copy-out-total : tie.Need-shared-slice-copy-out-total
-shared-slice-copy-out-total c = search needs
 
 returns : tie.Need-returns
 returns c =
     let a = c .before .before .args in
     let x = getD (a .totals .now) (a .i) (pos 0) in
-    sym (far x (change (a .from) (a .to)) (rw (back x (c .before .total .given)) at (c .if1 .taken)) (omega (arith, change-size (a .from) (a .to))))
-
-cast-is-within : tie.Need-cast-is-within
-cast-is-within c = search needs
-
-cast-is-within-2 : tie.Need-cast-is-within-2
-cast-is-within-2 c = search needs
+    sym (far x (c .before .total .given) (c .if1 .taken) (change (a .from) (a .to)) (omega (arith, change-size (a .from) (a .to))))
 
 sub-is-within : tie.Need-sub-is-within
 sub-is-within c = let a = c .before .before .args in change-fits (a .from) (a .to) (omega arith) (omega arith)
@@ -33,27 +24,25 @@ add-is-within : tie.Need-add-is-within
 add-is-within c =
     let a = c .before .before .args in
     let x = getD (a .totals .now) (a .i) (pos 0) in
-    sum-fits (a .from) (a .to) (omega arith) (omega arith) x (near x (rw (back x (c .before .total .given)) at (c .if1 .left)))
-
-is-within-requires : tie.Need-is-within-requires
-is-within-requires c κs = search needs
+    sum-fits (a .from) (a .to) (omega arith) (omega arith) x (near x (c .before .total .given) (c .if1 .left))
 
 returns-2 : tie.Need-returns-2
 returns-2 c =
     let a = c .before .before .before .args in
     let x = getD (a .totals .now) (a .i) (pos 0) in
-    c .is-within .ensures ∙ ap within (sum-is (a .from) (a .to) (omega arith) (omega arith) x (near x (rw (back x (c .before .before .total .given)) at (c .before .if1 .left))))
+    c .is-within .ensures
+    ∙ ap within (sum-is (a .from) (a .to) (omega arith) (omega arith) x (near x (c .before .before .total .given) (c .before .if1 .left)))
 
 pub fits-at-spec : {M : Type 1} → statement M
 fits-at-spec =
     tie.close
     (tie.spec
-    mul-total
-    shared-slice-copy-out-total
+    (λ c. search needs)
+    (λ c. search needs)
     returns
-    cast-is-within
-    cast-is-within-2
+    (λ c. search needs)
+    (λ c. search needs)
     sub-is-within
     add-is-within
-    is-within-requires
+    (λ c κs. search needs)
     returns-2)

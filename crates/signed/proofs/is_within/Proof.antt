@@ -1,3 +1,5 @@
+-- `signed::is_within` meets its contract: the word is read as the number that it holds (`back`), and the two tests of the ends are the one test of the size
+-- (`within-ends`).
 use Rattle.signed.proofs.Sums.{within-ends, back}
 use Rattle.signed.proofs.is_within.Statement.{statement}
 use Rattle.signed.proofs.is_within.Tie as tie

@@ -1,3 +1,5 @@
+-- `signed::is_within_at` meets its contract: it is what `is_within` ensures of the total at i, which is read from the slice as it stands there (`back`). That i
+-- is below the length is what the contract requires.
 use mathlib.Core.Path.{ap, _∙_}
 use lib.ListN.{getD}
 use lib.IntN.{pos}
@@ -7,15 +9,6 @@ use borrow.Author.Needs.{needs}
 use Rattle.signed.proofs.is_within_at.Statement.{statement}
 use Rattle.signed.proofs.is_within_at.Tie as tie
 
-mul-is-within : tie.Need-mul-is-within
-mul-is-within c = search needs
-
-shared-slice-copy-out-is-within : tie.Need-shared-slice-copy-out-is-within
-shared-slice-copy-out-is-within c = search needs
-
-is-within-requires : tie.Need-is-within-requires
-is-within-requires c κs = search needs
-
 returns : tie.Need-returns
 returns c =
     let a = c .before .before .args in
@@ -23,4 +16,4 @@ returns c =
 
 pub is-within-at-spec : {M : Type 1} → statement M
 is-within-at-spec =
-    tie.close (tie.spec mul-is-within shared-slice-copy-out-is-within is-within-requires returns)
+    tie.close (tie.spec (λ c. search needs) (λ c. search needs) (λ c κs. search needs) returns)

@@ -1,18 +1,19 @@
+-- `system::fill_row` meets its contract: row x of the system by its parts, (1 − Q) | K | fallback | T. No loop. The callees ask that row x lies in the tables
+-- and that its numbers are exact as floats (`row-exact`); every store is in scratch, since row x ends within it (`room`). The way out: the parts make the row,
+-- where the mark's number says whether it is used (`row-by-parts`).
 use native.Mathlib.Omega.{arith}
-use mathlib.Core.Path.{_≡_, sym, ap, _∙_}
 use borrow.Author.Needs.{needs}
-use Prim.Native.Nat.{_*_, _≤_, _^_}
-use lib.Dec.{eqb}
-use lib.ListN.{length-set}
+use Prim.Native.Nat.{_+_, _*_, _≤_}
+use lib.ListN.{length, length-set}
 use Rattle.basics.proofs.Tests.{fits-mul, row-in}
-use Rattle.marking.specs.Marks.{cellsOf, observations, markOf}
-use Rattle.marking.proofs.Rows.{any-least, observations-fit}
 use Rattle.series.specs.Scratch.{width}
-use Rattle.system.specs.Rows.{used}
-use Rattle.system.specs.Tables.{totalOf}
-use Rattle.system.proofs.Filling.{stay-fits, moved-fits, used-number, state-row}
+use Rattle.system.proofs.Filling.{row-exact, row-by-parts}
 use Rattle.system.proofs.fill_row.Statement.{statement}
 use Rattle.system.proofs.fill_row.Tie as tie
+
+-- row x ends within scratch
+room : (c : tie.Start) → c .args .x * width (c .args .n) + width (c .args .n) ≤ length (c .args .scratch .now)
+room c = omega (arith, row-in (c .args .x) (c .args .n) (width (c .args .n)) (c .pre .1))
 
 mul-start-2 : tie.Need-mul-start-2
 mul-start-2 c =
@@ -22,74 +23,22 @@ mul-start-2 c =
 fill-stay-requires : tie.Need-fill-stay-requires
 fill-stay-requires c κs =
     let at-start : tie.Start = search in
-    let a = at-start .args in
-    let p = at-start .pre in
-    let o : c .before .observations-of .result ≤ 2 ^ 53 = rw (c .before .observations-of .ensures)
-    (observations-fit (a .n) 0 (a .stay .now) (a .moved .now) (a .x) (p .0 .cells) (p .1)) in (
-      omega (arith, row-in (a .x) (a .n) (a .n) (p .1), p .0 .cells .stay-cells),
-      stay-fits (a .n) (a .stay .now) (a .moved .now) (a .x) (p .0 .cells) (p .1),
-      o,
-      omega (arith, row-in (a .x) (a .n) (width (a .n)) (p .1)),
-    )
+    let k = row-exact (at-start .pre .0) (at-start .pre .1) (c .before .observations-of .ensures) in
+    (k .stay-in, k .stay-exact, k .observed-exact, omega (arith, room at-start))
 
 total-part-requires : tie.Need-total-part-requires
 total-part-requires c κs =
     let at-observations-of : tie.After-observations-of = search in
     let at-start : tie.Start = search in
-    let a = at-start .args in
-    let p = at-start .pre in
-    let o : at-observations-of .observations-of .result ≤ 2 ^ 53 = rw (at-observations-of .observations-of .ensures)
-    (observations-fit (a .n) 0 (a .stay .now) (a .moved .now) (a .x) (p .0 .cells) (p .1)) in
-    (omega (arith, p .0 .totals-long), p .0 .totals-exact (a .x) (p .1), o)
-
-add-scratch : tie.Need-add-scratch
-add-scratch c =
-    let at-start : tie.Start = search in
-    omega (arith, row-in (at-start .args .x) (at-start .args .n) (width (at-start .args .n)) (at-start .pre .1))
-
-mul-scratch : tie.Need-mul-scratch
-mul-scratch c =
-    let at-start : tie.Start = search in
-    omega (arith, row-in (at-start .args .x) (at-start .args .n) (width (at-start .args .n)) (at-start .pre .1))
-
-slice-write-scratch : tie.Need-slice-write-scratch
-slice-write-scratch c =
-    let at-start : tie.Start = search in
-    omega (arith, row-in (at-start .args .x) (at-start .args .n) (width (at-start .args .n)) (at-start .pre .1))
-
-add-scratch-3 : tie.Need-add-scratch-3
-add-scratch-3 c =
-    let at-start : tie.Start = search in
-    omega (arith, row-in (at-start .args .x) (at-start .args .n) (width (at-start .args .n)) (at-start .pre .1))
-
-mul-scratch-2 : tie.Need-mul-scratch-2
-mul-scratch-2 c =
-    let at-start : tie.Start = search in
-    omega (arith, row-in (at-start .args .x) (at-start .args .n) (width (at-start .args .n)) (at-start .pre .1))
-
-slice-write-scratch-2 : tie.Need-slice-write-scratch-2
-slice-write-scratch-2 c =
-    let at-start : tie.Start = search in
-    simp length-set (omega (arith, row-in (at-start .args .x) (at-start .args .n) (width (at-start .args .n)) (at-start .pre .1)))
-
-add-fill-moved-2 : tie.Need-add-fill-moved-2
-add-fill-moved-2 c =
-    let at-start : tie.Start = search in
-    omega (arith, row-in (at-start .args .x) (at-start .args .n) (width (at-start .args .n)) (at-start .pre .1))
+    let k = row-exact (at-start .pre .0) (at-start .pre .1) (at-observations-of .observations-of .ensures) in
+    (k .total-in, k .total-exact, k .observed-exact)
 
 fill-moved-requires : tie.Need-fill-moved-requires
 fill-moved-requires c κs =
     let at-observations-of : tie.After-observations-of = search in
     let at-start : tie.Start = search in
-    let a = at-start .args in
-    let p = at-start .pre in
-    let o : at-observations-of .observations-of .result ≤ 2 ^ 53 = rw (at-observations-of .observations-of .ensures)
-    (observations-fit (a .n) 0 (a .stay .now) (a .moved .now) (a .x) (p .0 .cells) (p .1)) in (
-      omega (arith, row-in (a .x) (a .n) (a .n) (p .1), p .0 .cells .moved-cells),
-      moved-fits (a .n) (a .stay .now) (a .moved .now) (a .x) (p .0 .cells) (p .1),
-      o,
-      simp length-set (omega (arith, row-in (a .x) (a .n) (width (a .n)) (p .1))),
-    )
+    let k = row-exact (at-start .pre .0) (at-start .pre .1) (at-observations-of .observations-of .ensures) in
+    (k .moved-in, k .moved-exact, k .observed-exact, simp length-set (omega (arith, room at-start)))
 
 same-length : tie.Need-same-length
 same-length c =
@@ -104,12 +53,13 @@ returns c least marked =
     let at-observations-of : tie.After-observations-of = search in
     let at-start : tie.Start = search in
     let a = at-start .args in
-    let C = cellsOf (a .n) least (a .stay .now) (a .moved .now) in
-    let u : eqb (a .mark) 0 ≡ used C (a .x) = ap (λ m. eqb m 0) marked ∙ used-number (markOf C (a .x)) in
-    let o : at-observations-of .observations-of .result ≡ observations C (a .x) = at-observations-of .observations-of .ensures
-    ∙ sym (any-least (a .n) least (a .stay .now) (a .moved .now) (a .x)) in
-    state-row C (totalOf (a .totals .now)) (a .x) (a .x * width (a .n)) _ _ u o _ _ _ _ _ (at-fill-stay .fill-stay .ensures)
-    (omega (arith, row-in (a .x) (a .n) (width (a .n)) (at-start .pre .1))) (at-total-part .total-part .ensures) (at-fallback-of .fallback-of .ensures)
+    row-by-parts (a .n) least (a .mark) (a .x) _ (a .stay .now) (a .moved .now) (a .totals .now)
+    marked
+    (at-observations-of .observations-of .ensures)
+    (at-fill-stay .fill-stay .ensures)
+    (omega (arith, room at-start))
+    (at-total-part .total-part .ensures)
+    (at-fallback-of .fallback-of .ensures)
     (c .before .before .fill-moved .ensures)
 
 pub fill-row-spec : {M : Type 1} → statement M
@@ -122,16 +72,16 @@ fill-row-spec =
     mul-start-2
     fill-stay-requires
     total-part-requires
-    add-scratch
-    mul-scratch
-    slice-write-scratch
+    (λ c. omega (arith, room search))
+    (λ c. omega (arith, room search))
+    (λ c. omega (arith, room search))
     (λ c κs. search needs)
     (λ c. search needs)
-    add-scratch-3
-    mul-scratch-2
-    slice-write-scratch-2
+    (λ c. omega (arith, room search))
+    (λ c. omega (arith, room search))
+    (λ c. simp length-set (omega (arith, room search)))
     (λ c. search needs)
-    add-fill-moved-2
+    (λ c. omega (arith, room search))
     fill-moved-requires
     same-length
     returns)

@@ -1,29 +1,26 @@
+-- `system::fill_stay` meets its contract: 1 − Q of row x into the n places from `to` on. Invariant: k of them are filled, and every other place is as it was
+-- (`Filling`; `filling-none`, `filling-more`). The measure is n less k. `part_of` asks that the cell and the observations are exact as floats, which the
+-- contract requires. At the way out k is n (`filling-all`).
 use native.Mathlib.Omega.{arith}
-use Prim.Native.Nat.{_≤_, _-_}
-use mathlib.Core.Path.{_≡_, refl, ap, _∙_}
+use Prim.Native.Nat.{_-_}
+use mathlib.Core.Path.{ap, _∙_}
 use mathlib.Core.Bool.{cond}
 use lib.Dec.{eqb}
 use lib.IntN.{pos}
-use lib.ListN.{length, length-set}
 use lib.Ieee.{binary64, sub, neg}
 use Rattle.floats.specs.Floats.{one}
 use Rattle.marking.specs.Marks.{cellOf}
-use Rattle.linear.specs.Loops.{Filled}
-use Rattle.linear.proofs.Parts.{filled-none, filled-more}
+use Rattle.linear.proofs.Parts.{Filling, filling-none, filling-more, filling-all}
 use Rattle.system.specs.Rows.{part}
 use Rattle.system.proofs.fill_stay.Statement.{statement}
 use Rattle.system.proofs.fill_stay.Tie as tie
 
 abbrev Inv-loop : tie.InvT-loop
 Inv-loop stay n x observed is-used scratch₀ to row k₀ scratch k =
-    (k ≤ n) × (length scratch ≡ length scratch₀)
-    × Filled to k (λ k. let q = part is-used (pos (cellOf n stay x k)) observed in cond (eqb x k) (sub binary64 one q) (neg q)) scratch₀ scratch
+    Filling to n (λ k. let q = part is-used (pos (cellOf n stay x k)) observed in cond (eqb x k) (sub binary64 one q) (neg q)) scratch₀ k scratch
 
 abbrev μ-loop : tie.MeasureT-loop
 μ-loop stay n x observed is-used scratch₀ to row k₀ scratch k = n - k
-
-loop-holds : tie.Need-loop-holds Inv-loop μ-loop
-loop-holds c = (omega arith, refl, filled-none)
 
 part-of-requires : tie.Need-part-of-requires Inv-loop μ-loop
 part-of-requires c κs =
@@ -33,18 +30,9 @@ part-of-requires c κs =
 loop-again : tie.Need-loop-again Inv-loop μ-loop
 loop-again c =
     let at-loop : tie.At-loop Inv-loop μ-loop = search in
-    let at-start : tie.Start Inv-loop μ-loop = search in (
-      omega arith,
-      simp length-set (omega arith),
-      filled-more (at-loop .loop .inv .2) _ (omega arith)
-          (c .less-stay .ensures ∙ ap (λ q. cond (eqb (at-start .args .x) (at-loop .loop .k)) (sub binary64 one q) (neg q)) (c .before .part-of .ensures)),
-    )
-
-returns : tie.Need-returns Inv-loop μ-loop
-returns c =
     let at-start : tie.Start Inv-loop μ-loop = search in
-    let done : c .before .loop .k ≡ at-start .args .n = omega arith in
-    rw done at (c .before .loop .inv .2)
+    filling-more (at-loop .loop .inv) _ (omega arith) (omega arith)
+    (c .less-stay .ensures ∙ ap (λ q. cond (eqb (at-start .args .x) (at-loop .loop .k)) (sub binary64 one q) (neg q)) (c .before .part-of .ensures))
 
 pub fill-stay-spec : {M : Type 1} → statement M
 fill-stay-spec =
@@ -53,7 +41,7 @@ fill-stay-spec =
     Inv-loop
     μ-loop
     (λ c. omega arith)
-    loop-holds
+    (λ c. filling-none)
     (λ c. omega arith)
     (λ c. omega arith)
     (λ c. omega arith)
@@ -66,4 +54,4 @@ fill-stay-spec =
     (λ c. omega arith)
     loop-again
     (λ c. omega arith)
-    returns)
+    (λ c. filling-all (c .before .loop .inv) (omega arith)))

@@ -1,3 +1,6 @@
+-- `system::fill_system` meets its contract: the rows one after another. Invariant: for every least count for which the marks are the marks of the cells, the
+-- first x rows are those of the system and every other place is as it was (`rows-none`, `rows-more`); scratch keeps its length. The measure is n less x. At the
+-- way out x is n.
 use native.Mathlib.Omega.{arith}
 use Prim.Native.Nat.{ℕ, _≤_, _-_}
 use mathlib.Core.Path.{_≡_, refl}

@@ -1,3 +1,4 @@
+-- `system::less_stay` meets its contract: on the diagonal 1 − q, elsewhere −q; each way out is one case of the definition.
 use Rattle.system.proofs.less_stay.Statement.{statement}
 use Rattle.system.proofs.less_stay.Tie as tie
 

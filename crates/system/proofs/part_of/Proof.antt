@@ -1,3 +1,5 @@
+-- `system::part_of` meets its contract: a used row's count by its observations, each turned into a float exactly; else zero. Each way out is one case of
+-- `part`.
 use borrow.Author.Needs.{needs}
 use Rattle.system.specs.Rows.{part}
 use Rattle.system.proofs.part_of.Statement.{statement}

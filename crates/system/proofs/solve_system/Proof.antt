@@ -1,3 +1,6 @@
+-- `system::solve_system` meets its contract: fill, eliminate, sum the series, take the share. No loop. The ways out: elimination finds no pivot
+-- (`solved-singular`), the series does not converge (`solved-not-summed`), and solved (`solved-summed`). Each law takes what the calls ensure, in their order,
+-- for a least count for which the marks are the marks of the cells.
 use Rattle.marking.specs.Marks.{cellsOf}
 use Rattle.system.specs.Tables.{totalOf}
 use Rattle.system.proofs.Solving.{solved-singular, solved-not-summed, solved-summed}

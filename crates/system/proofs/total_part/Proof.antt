@@ -1,3 +1,5 @@
+-- `system::total_part` meets its contract: a used row's move total by its observations, each turned into a float exactly; else zero. Each way out is one case
+-- of `part`. The slice gives the total as a 64-bit word; its signed reading is the total again (`toZ-ofZ`).
 use mathlib.Core.Path.{_≡_}
 use mir.Val.{toZ, ofZ}
 use mir.Facts.{toZ-ofZ}

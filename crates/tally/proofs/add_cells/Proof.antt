@@ -1,3 +1,5 @@
+-- `tally::add_cells` meets its contract: one more at a, then one more at b, as the contract's two `bump`s. Neither sum wraps: with both added the two cells are
+-- within the limit, so the cell at a was (`cells-first`) and so is the cell at b after the first addition (`cells-second`).
 use native.Mathlib.Omega.{arith}
 use Rattle.tally.proofs.Touched.{cells-first, cells-second}
 use borrow.Author.Needs.{needs}

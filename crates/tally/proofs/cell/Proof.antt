@@ -1,3 +1,4 @@
+-- `tally::cell` meets its contract: a cell's number in a flat table. With i and j below n ≤ 256 the product (`fits-mul`) and the sum (`mul-le-mul`) fit a word.
 use native.Mathlib.Omega.{arith}
 use native.Mathlib.Nat.{mul-le-mul}
 use Rattle.basics.proofs.Tests.{fits-mul}

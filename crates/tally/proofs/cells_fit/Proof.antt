@@ -1,3 +1,5 @@
+-- `tally::cells_fit` meets its contract: whether both cells are within the limit with one more each (`cells-flat`). Where a and b are one place it gets both,
+-- and the first comparison is with one less: `once_more` gives 1 there and else 0, which cannot wrap the subtraction.
 use native.Mathlib.Omega.{arith}
 use Rattle.tally.proofs.Touched.{cells-flat}
 use borrow.Author.Needs.{needs}

@@ -1,27 +1,26 @@
--- `tally::enter_pair` meets its contract: a pair and its mirror are entered. The two totals are added first, then two cells of one table: of `stay` where the
--- mid price is the same (`both-stay`), of `moved` where it is not (`both-moved`). No loop. The callees ask that the cells lie in the tables (`flat-below`) and
--- that no sum passes its limit, which is what the contract requires of the tables with both entries in (`stay-clear`, `moved-clear`, `totals-clear`).
-use Rattle.basics.proofs.Lists.{flat-below}
-use Rattle.signed.specs.Totals.{change}
-use Rattle.tally.specs.Entries.{tables}
-use Rattle.tally.proofs.Touched.{zero-same, zero-other, both-stay, both-moved, stay-clear, moved-clear, totals-clear}
+-- `tally::enter_pair` meets its contract: the two totals are added first, then two cells of one table: of `stay` where the mids are the same, so that the
+-- change is 0 (`zero-same`), of `moved` where they are not (`zero-other`). Both ways out are `pair-entered`. No loop. The callees ask that the cells lie in the
+-- table and that no sum passes its limit, as the contract requires of the tables with both entries in (`cells-clear`, `totals-clear`).
+use mathlib.Core.Path.{refl}
+use mathlib.Core.Bool.{true, false}
+use Rattle.tally.proofs.Touched.{zero-same, zero-other, cells-clear, totals-clear, pair-entered}
 use borrow.Author.Needs.{needs}
 use Rattle.tally.proofs.enter_pair.Statement.{statement}
 use Rattle.tally.proofs.enter_pair.Tie as tie
 
 add-totals-requires : tie.Need-add-totals-requires
 add-totals-requires c κs =
+    let at-cell2 : tie.After-cell2 = search in
+    let at-cell : tie.After-cell = search in
     let at-start : tie.Start = search in
     let a = at-start .args in
-    let e = a .e in
     let p = at-start .pre in
     rw (p .0 .totals-cells) (
       p .0 .from-below,
       p .0 .mirror-from-below,
       p .0 .mid-from-most,
       p .0 .mid-to-most,
-      totals-clear (a .n) (e .from) (e .to) (e .«mirror_from») (e .«mirror_to») (change (e .«mid_from») (e .«mid_to»))
-          (tables (a .stay .now) (a .moved .now) (a .totals .now)) (p .1),
+      totals-clear (a .n) (a .e) _ _ (at-cell .cell .ensures) (at-cell2 .cell2 .ensures) (a .stay .now) (a .moved .now) (a .totals .now) (p .1),
     )
 
 add-cells-requires : tie.Need-add-cells-requires
@@ -30,14 +29,9 @@ add-cells-requires c κs =
     let at-cell : tie.After-cell = search in
     let at-start : tie.Start = search in
     let a = at-start .args in
-    let e = a .e in
     let p = at-start .pre in
-    rw (at-cell .cell .ensures, at-cell2 .cell2 .ensures, p .0 .stay-cells) (
-      flat-below (a .n) (e .from) (e .to) (p .0 .to-below) (a .n) (p .0 .from-below),
-      flat-below (a .n) (e .«mirror_from») (e .«mirror_to») (p .0 .mirror-to-below) (a .n) (p .0 .mirror-from-below),
-      stay-clear (a .n) (e .from) (e .to) (e .«mirror_from») (e .«mirror_to») (change (e .«mid_from») (e .«mid_to»))
-          (tables (a .stay .now) (a .moved .now) (a .totals .now)) (p .1) (zero-same (e .«mid_from») (e .«mid_to») (c .before .if1 .taken)),
-    )
+    cells-clear (a .n) (a .e) _ _ (at-cell .cell .ensures) (at-cell2 .cell2 .ensures) (a .stay .now) (a .moved .now) (a .totals .now) (p .1) (p .0)
+    true (zero-same _ _ (c .before .if1 .taken)) (p .0 .stay-cells)
 
 add-cells-requires-2 : tie.Need-add-cells-requires-2
 add-cells-requires-2 c κs =
@@ -45,14 +39,9 @@ add-cells-requires-2 c κs =
     let at-cell : tie.After-cell = search in
     let at-start : tie.Start = search in
     let a = at-start .args in
-    let e = a .e in
     let p = at-start .pre in
-    rw (at-cell .cell .ensures, at-cell2 .cell2 .ensures, p .0 .moved-cells) (
-      flat-below (a .n) (e .from) (e .to) (p .0 .to-below) (a .n) (p .0 .from-below),
-      flat-below (a .n) (e .«mirror_from») (e .«mirror_to») (p .0 .mirror-to-below) (a .n) (p .0 .mirror-from-below),
-      moved-clear (a .n) (e .from) (e .to) (e .«mirror_from») (e .«mirror_to») (change (e .«mid_from») (e .«mid_to»))
-          (tables (a .stay .now) (a .moved .now) (a .totals .now)) (p .1) (zero-other (e .«mid_from») (e .«mid_to») (c .before .if1 .left)),
-    )
+    cells-clear (a .n) (a .e) _ _ (at-cell .cell .ensures) (at-cell2 .cell2 .ensures) (a .stay .now) (a .moved .now) (a .totals .now) (p .1) (p .0)
+    false (zero-other _ _ (c .before .if1 .left)) (p .0 .moved-cells)
 
 returns : tie.Need-returns
 returns c =
@@ -62,15 +51,8 @@ returns c =
     let at-cell : tie.After-cell = search in
     let at-start : tie.Start = search in
     let a = at-start .args in
-    let e = a .e in
-    rw (
-      both-stay (a .n) (e .from) (e .to) (e .«mirror_from») (e .«mirror_to») (change (e .«mid_from») (e .«mid_to»))
-          (tables (a .stay .now) (a .moved .now) (a .totals .now)) (zero-same (e .«mid_from») (e .«mid_to») (at-then1 .if1 .taken)),
-      c .before .before .add-cells .ensures,
-      at-add-totals .add-totals .ensures,
-      at-cell .cell .ensures,
-      at-cell2 .cell2 .ensures,
-    )
+    pair-entered (a .n) (a .e) _ _ (at-cell .cell .ensures) (at-cell2 .cell2 .ensures) (a .stay .now) (a .moved .now) (a .totals .now)
+    true (zero-same _ _ (at-then1 .if1 .taken)) _ _ _ (c .before .before .add-cells .ensures) refl (at-add-totals .add-totals .ensures)
 
 returns-2 : tie.Need-returns-2
 returns-2 c =
@@ -80,15 +62,8 @@ returns-2 c =
     let at-cell : tie.After-cell = search in
     let at-start : tie.Start = search in
     let a = at-start .args in
-    let e = a .e in
-    rw (
-      both-moved (a .n) (e .from) (e .to) (e .«mirror_from») (e .«mirror_to») (change (e .«mid_from») (e .«mid_to»))
-          (tables (a .stay .now) (a .moved .now) (a .totals .now)) (zero-other (e .«mid_from») (e .«mid_to») (at-else1 .if1 .left)),
-      c .before .before .add-cells2 .ensures,
-      at-add-totals .add-totals .ensures,
-      at-cell .cell .ensures,
-      at-cell2 .cell2 .ensures,
-    )
+    pair-entered (a .n) (a .e) _ _ (at-cell .cell .ensures) (at-cell2 .cell2 .ensures) (a .stay .now) (a .moved .now) (a .totals .now)
+    false (zero-other _ _ (at-else1 .if1 .left)) _ _ _ refl (c .before .before .add-cells2 .ensures) (at-add-totals .add-totals .ensures)
 
 pub enter-pair-spec : {M : Type 1} → statement M
 enter-pair-spec =

@@ -1,3 +1,4 @@
+-- `tally::may_count` meets its contract: one more is within the limit exactly if the counter is below it (`room-one`).
 use mathlib.Core.Path.{sym}
 use Rattle.tally.proofs.Touched.{room-one}
 use Rattle.tally.proofs.may_count.Statement.{statement}

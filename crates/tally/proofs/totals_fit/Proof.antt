@@ -1,3 +1,5 @@
+-- `tally::totals_fit` meets its contract: whether both totals are within the limit with the change at a and its negative at b. At one place the two cancel, and
+-- the total as it is has to be within (`totals-same`); at two places each with its own addition (`totals-other`, with `change-neg` for the second).
 use mathlib.Core.Path.{ap, _∙_}
 use mathlib.Core.Bool.{not}
 use Rattle.signed.specs.Totals.{change}

@@ -1,3 +1,5 @@
+-- `text::add_digit` meets its contract: the digit is taken exactly where `takes` says so (`digit-on`, `digit-off`). A digit that is taken keeps the value below
+-- 2^64 (`takes-below`), which is what the product and the sum need. No loop.
 use mathlib.Core.Path.{sym, _∙_}
 use native.Mathlib.Omega.{arith}
 use Rattle.text.proofs.Steps.{digit-off, digit-on, takes-below}

@@ -1,3 +1,5 @@
+-- `text::after` meets its contract: each way out is one branch of the definition, chosen by the same tests: a space below 6, a newline at 6 and at each fifth
+-- from there on, else a space.
 use borrow.Author.Tests.{lt-ltb, le-ltb, eq-eqb, ne-eqb}
 use Rattle.text.proofs.after.Statement.{statement}
 use Rattle.text.proofs.after.Tie as tie

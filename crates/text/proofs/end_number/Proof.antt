@@ -1,3 +1,5 @@
+-- `text::end_number` meets its contract: a number ends exactly if it has digits and the byte is the one that follows it (`end-on`, `end-off`). The code's test
+-- is the definition's, with what `after` answers in the place of `after`. No loop.
 use mathlib.Core.Path.{sym, _∙_, ap}
 use mathlib.Core.Bool.{_&&_}
 use Prim.Native.Nat.{ℕ}

@@ -1,3 +1,5 @@
+-- `text::few_states` meets its contract: n × s is compared with 27 without the product, which may pass 2^64. For n = 0 the product is 0 (`no-product`), for any
+-- other n the test s ≤ 27 / n says the same (`product-test`).
 use Prim.Native.Nat.{_<_}
 use native.Mathlib.Omega.{arith}
 use Rattle.text.proofs.Steps.{product-test, no-product}

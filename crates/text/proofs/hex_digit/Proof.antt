@@ -1,3 +1,4 @@
+-- `text::hex_digit` meets its contract: 48 + d below 10 (`hex-figure`), 87 + d from 10 on (`hex-letter`); both are bytes since d < 16.
 use borrow.Author.Needs.{needs}
 use Rattle.text.proofs.Puts.{hex-figure, hex-letter}
 use Rattle.text.proofs.hex_digit.Statement.{statement}

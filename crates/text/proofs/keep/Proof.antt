@@ -1,3 +1,5 @@
+-- `text::keep` meets its contract. The ways out: no number ended (`keep-none`); one ended and is stored (`keep-set`); it has no place within the output, where
+-- a store would change nothing (`keep-late`); it comes before number `first` (`keep-early`).
 use mathlib.Core.Path.{sym}
 use Rattle.text.proofs.Steps.{keep-none, keep-set, keep-late, keep-early}
 use borrow.Author.Needs.{needs}

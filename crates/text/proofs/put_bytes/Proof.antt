@@ -1,3 +1,5 @@
+-- `text::put_bytes` meets its contract. Invariant: the output is as long as it was, and with the bytes from i on stored from `at` + i on it is the old output
+-- with all bytes stored. The measure is how many bytes are left. One byte more is `bytes-step`; at the end there is nothing left to store (`bytes-end`).
 use Prim.Native.Nat.{ℕ, _+_, _-_, _≤_}
 use mathlib.Core.Path.{_≡_, refl, sym, _∙_, ap}
 use native.Mathlib.Omega.{arith}

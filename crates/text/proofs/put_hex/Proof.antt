@@ -1,3 +1,4 @@
+-- `text::put_hex` meets its contract: `hex16` of a word is by definition its last 16 hexadecimal digits, which `put_digits` writes.
 use borrow.Author.Needs.{needs}
 use Rattle.text.specs.Written.{hex16}
 use Rattle.text.proofs.put_hex.Statement.{statement}

@@ -1,3 +1,6 @@
+-- `text::read_numbers` meets its contract. Invariant (`Reached`): going on from the scan s at byte i gives the answer for the whole text, and storing the
+-- numbers that end from there on gives its output; no more than i numbers have ended. The measure is how many bytes are left. One byte more is `reached-on`.
+-- The ways out: a byte may not stand where it does (`reached-off`), the text ends within a number (`reached-open`), it ends after one (`reached-end`).
 use Prim.Native.Nat.{ℕ, _+_, _-_, _≤_}
 use mathlib.Core.Path.{_≡_, refl, sym, _∙_, ap, subst}
 use mathlib.Core.List.{List}

@@ -1,10 +1,8 @@
-use mathlib.Core.Path.{_≡_, refl, sym, _∙_}
-use mathlib.Core.Bool.{_&&_}
-use lib.ListN.{getD}
-use borrow.Author.Tests.{not-true, not-false}
-use Rattle.basics.proofs.Tests.{both}
-use Rattle.text.specs.Reading.{wholeLines, fewStates}
-use Rattle.text.proofs.Answers.{whole-least, read-broken, read-refused, read-asked}
+-- `text::read_text` meets its contract: the text is read once for the numbers of line 1 and, if the tests pass, again for the words of the quotes. No loop. The
+-- ways out: a byte may not stand where it does (`read-broken`); not whole lines, too many quotes or too many states (`read-refused`); a request (`read-asked`).
+-- The laws take what the calls promise; that seven numbers may be subtracted from the count is `passed-least`.
+use mathlib.Core.Path.{refl}
+use Rattle.text.proofs.Answers.{read-broken, passed-least, read-refused, read-asked}
 use borrow.Author.Needs.{needs}
 use Rattle.text.proofs.read_text.Statement.{statement}
 use Rattle.text.proofs.read_text.Tie as tie
@@ -12,8 +10,7 @@ use Rattle.text.proofs.read_text.Tie as tie
 returns : tie.Need-returns
 returns c =
     let at-start : tie.Start = search in
-    read-broken (at-start .args .text .now) (at-start .args .recording .now)
-    (sym (c .enum-told .given .1) ∙ c .before .before .before .read-numbers .ensures .answer)
+    read-broken (at-start .args .text .now) (at-start .args .recording .now) (c .before .before .before .read-numbers .ensures) (c .enum-told .given .1)
 
 returns-2 : tie.Need-returns-2
 returns-2 c =
@@ -22,29 +19,14 @@ returns-2 c =
     let at-read-numbers : tie.After-read-numbers = search in
     let at-start : tie.Start = search in
     let a = at-start .args in
-    let head = at-read-numbers .read-numbers .last .1 .1 .0 in
-    let n = at-found .found .given .0 .0 in
-    let e : (wholeLines n && fewStates (getD head 1 0) (getD head 2 0)) ≡
-    (c .before .whole-lines .result && at-few-states .few-states .result) = λ i. sym (c .before .whole-lines .ensures) i &&
-    sym (at-few-states .few-states .ensures) i in
-    read-refused (a .text .now) (a .recording .now) _ head n refl (at-read-numbers .read-numbers .ensures .stored)
-    (sym (at-found .found .given .1) ∙ at-read-numbers .read-numbers .ensures .answer) (e ∙ not-true _ (c .if1 .taken))
+    read-refused (a .text .now) (a .recording .now) (at-read-numbers .read-numbers .ensures) (at-found .found .given .1) refl
+    (c .before .whole-lines .ensures) (at-few-states .few-states .ensures) (c .if1 .taken)
 
 sub-t40 : tie.Need-sub-t40
 sub-t40 c =
     let at-else1 : tie.Else1 = search in
     let at-whole-lines : tie.After-whole-lines = search in
-    let at-few-states : tie.After-few-states = search in
-    let at-found : tie.After-found = search in
-    let at-read-numbers : tie.After-read-numbers = search in
-    let at-start : tie.Start = search in
-    let a = at-start .args in
-    let head = at-read-numbers .read-numbers .last .1 .1 .0 in
-    let n = at-found .found .given .0 .0 in
-    let e : (wholeLines n && fewStates (getD head 1 0) (getD head 2 0)) ≡
-    (at-whole-lines .whole-lines .result && at-few-states .few-states .result) = λ i. sym (at-whole-lines .whole-lines .ensures) i &&
-    sym (at-few-states .few-states .ensures) i in
-    whole-least n (both (wholeLines n) (fewStates (getD head 1 0) (getD head 2 0)) (e ∙ not-false _ (at-else1 .if1 .left)) .0)
+    passed-least _ (at-whole-lines .whole-lines .ensures) (at-else1 .if1 .left)
 
 returns-3 : tie.Need-returns-3
 returns-3 c =
@@ -55,14 +37,8 @@ returns-3 c =
     let at-read-numbers : tie.After-read-numbers = search in
     let at-start : tie.Start = search in
     let a = at-start .args in
-    let head = at-read-numbers .read-numbers .last .1 .1 .0 in
-    let n = at-found .found .given .0 .0 in
-    let e : (wholeLines n && fewStates (getD head 1 0) (getD head 2 0)) ≡
-    (at-whole-lines .whole-lines .result && at-few-states .few-states .result) = λ i. sym (at-whole-lines .whole-lines .ensures) i &&
-    sym (at-few-states .few-states .ensures) i in
-    read-asked (a .text .now) (a .recording .now) _ head n refl (at-read-numbers .read-numbers .ensures .stored)
-    (sym (at-found .found .given .1) ∙ at-read-numbers .read-numbers .ensures .answer) _ (e ∙ not-false _ (at-else1 .if1 .left))
-    (c .before .before .read-numbers2 .ensures .stored)
+    read-asked (a .text .now) (a .recording .now) (at-read-numbers .read-numbers .ensures) (at-found .found .given .1) refl
+    (at-whole-lines .whole-lines .ensures) (at-few-states .few-states .ensures) (at-else1 .if1 .left) (c .before .before .read-numbers2 .ensures)
 
 pub read-text-spec : {M : Type 1} → statement M
 read-text-spec =

@@ -1,3 +1,5 @@
+-- `text::take_byte` meets its contract: a byte below 48 or above 57 is no digit, so it is the step of a number's end (`step-below`, `step-above`); any other is
+-- the step of a digit (`step-digit`). The two callees answer these steps. No loop.
 use mathlib.Core.Path.{sym, _∙_}
 use Rattle.text.proofs.Steps.{step-below, step-above, step-digit}
 use borrow.Author.Needs.{needs}

@@ -1,3 +1,4 @@
+-- `text::takes` meets its contract: the test for a first zero is the definition's; that value × 10 + d stays below 2^64 is judged by a division (`fits-test`).
 use mathlib.Core.Path.{ap}
 use mathlib.Core.Bool.{Bool, not, _&&_}
 use lib.Dec.{eqb}

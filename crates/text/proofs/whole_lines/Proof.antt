@@ -1,3 +1,4 @@
+-- `text::whole_lines` meets its contract: fewer than 7 numbers are no line 1; from 7 on the test of the code is the rest of the definition's (`whole-later`).
 use borrow.Author.Tests.{lt-leb}
 use Rattle.text.proofs.Steps.{whole-later}
 use Rattle.text.proofs.whole_lines.Statement.{statement}

@@ -1,3 +1,6 @@
+-- `words::get_word` meets its contract: eight bytes read from the last to the first. Loop over k, measure k; invariant: w is the value of the bytes from k to 7
+-- and below 256^(8 − k). `get-step` takes in one byte more, `get-bound` keeps the bound, and below 2^56 (`get-room`) neither w · 256 nor the sum overflows; at
+-- k = 0 it is the whole word.
 use mathlib.Core.Path.{_≡_, _∙_, ap}
 use Prim.Native.Nat.{ℕ, _+_, _-_, _≤_, _<_, _^_}
 use lib.ListN.{take, drop}
@@ -13,35 +16,23 @@ Inv-loop bytes at w₀ k₀ w k = (k ≤ 8) × (w ≡ value (take (8 - k) (drop 
 abbrev μ-loop : tie.MeasureT-loop
 μ-loop bytes at w₀ k₀ w k = k
 
-loop-holds : tie.Need-loop-holds Inv-loop μ-loop
-loop-holds c = omega arith
-
-sub-k : tie.Need-sub-k Inv-loop μ-loop
-sub-k c = omega arith
-
 mul-w : tie.Need-mul-w Inv-loop μ-loop
 mul-w c = let h = get-room (c .before .loop .k) (c .before .loop .w) (omega arith) (c .before .loop .inv .2) in omega arith
 
-add-wide : tie.Need-add-wide Inv-loop μ-loop
-add-wide c = omega arith
-
-shared-slice-read-wide : tie.Need-shared-slice-read-wide Inv-loop μ-loop
-shared-slice-read-wide c = omega arith
-
-wide-requires : tie.Need-wide-requires Inv-loop μ-loop
-wide-requires c κs = omega arith
-
 add-w : tie.Need-add-w Inv-loop μ-loop
-add-w c = let h = get-room (c .before .before .before .loop .k) (c .before .before .before .loop .w) (omega arith) (c .before .before .before .loop .inv .2) in omega arith
-
-loop-less : tie.Need-loop-less Inv-loop μ-loop
-loop-less c = omega arith
+add-w c =
+    let at-loop : tie.At-loop Inv-loop μ-loop = search in
+    let h = get-room (at-loop .loop .k) (at-loop .loop .w) (omega arith) (at-loop .loop .inv .2) in omega arith
 
 loop-again : tie.Need-loop-again Inv-loop μ-loop
 loop-again c =
+    let at-start : tie.Start Inv-loop μ-loop = search in
     let l = c .before .before .before .loop in
-    let a = c .before .before .before .before .before .args in
-    (omega arith, get-step (a .bytes .now) (a .at) (l .k) (l .w) (c .wide .result) (omega arith) (omega arith) (omega arith) (l .inv .1) (c .wide .ensures .0), get-bound (l .k) (l .w) (c .wide .result) (omega arith) (omega arith) (l .inv .2) (omega arith))
+    let a = at-start .args in (
+      omega arith,
+      get-step (a .bytes .now) (a .at) (l .k) (l .w) (c .wide .result) (omega arith) (omega arith) (omega arith) (l .inv .1) (c .wide .ensures .0),
+      get-bound (l .k) (l .w) (c .wide .result) (omega arith) (omega arith) (l .inv .2) (omega arith),
+    )
 
 returns : tie.Need-returns Inv-loop μ-loop
 returns c =
@@ -57,13 +48,13 @@ get-word-spec =
     (tie.spec
     Inv-loop
     μ-loop
-    loop-holds
-    sub-k
+    (λ c. omega arith)
+    (λ c. omega arith)
     mul-w
-    add-wide
-    shared-slice-read-wide
-    wide-requires
+    (λ c. omega arith)
+    (λ c. omega arith)
+    (λ c κs. omega arith)
     add-w
-    loop-less
+    (λ c. omega arith)
     loop-again
     returns)

@@ -1,61 +1,41 @@
+-- `words::put_table` meets its contract: the words of a table one after another. Loop over i, measure the table's length − i; invariant `PutTo`: the output
+-- keeps its length, and the words from i on, stored there, make the whole table stored. It holds at first (`put-to-first`), one word more keeps it
+-- (`put-to-next`), and with no word left the output is the result (`put-to-last`).
+use mathlib.Core.Path.{refl}
+use Prim.Native.Nat.{_-_}
 use native.Mathlib.Omega.{arith}
-use mathlib.Core.Path.{_≡_, refl, sym, _∙_, ap}
-use mathlib.Core.List.{List}
-use Prim.Native.Nat.{ℕ, _+_, _*_, _-_, _≤_}
-use lib.ListN.{length, getD, drop}
-use lib.Seq.{sets, length-sets}
-use Rattle.words.specs.Words.{digits, bytesOf}
-use Rattle.words.proofs.Laws.{table-step, table-end}
+use lib.ListN.{length}
+use Rattle.words.proofs.Tables.{PutTo, put-to-first, put-to-next, put-to-last}
 use Rattle.words.proofs.put_table.Statement.{statement}
 use Rattle.words.proofs.put_table.Tie as tie
 
 abbrev Inv-loop : tie.InvT-loop
-Inv-loop out₀ at t i₀ out i = (i ≤ length t) × (length out ≡ length out₀) × (sets out (at + 8 * i) (bytesOf (drop i t)) ≡ sets out₀ at (bytesOf t))
+Inv-loop out₀ at t i₀ out i = PutTo out₀ at t out i
 
 abbrev μ-loop : tie.MeasureT-loop
 μ-loop out₀ at t i₀ out i = length t - i
 
 loop-holds : tie.Need-loop-holds Inv-loop μ-loop
-loop-holds c = (omega arith, refl, ap (λ (j : ℕ). sets (c .before .before .args .out .now) j (bytesOf (c .before .before .args .t .now))) (let e : c .before .before .args .at + 8 * 0 ≡ c .before .before .args .at = omega arith in e))
-
-mul-put-word : tie.Need-mul-put-word Inv-loop μ-loop
-mul-put-word c = omega arith
-
-add-put-word : tie.Need-add-put-word Inv-loop μ-loop
-add-put-word c = omega arith
-
-mul-put-word-2 : tie.Need-mul-put-word-2 Inv-loop μ-loop
-mul-put-word-2 c = omega arith
-
-shared-slice-read-put-word : tie.Need-shared-slice-read-put-word Inv-loop μ-loop
-shared-slice-read-put-word c = omega arith
-
-put-word-requires : tie.Need-put-word-requires Inv-loop μ-loop
-put-word-requires c κs = omega arith
-
-add-i : tie.Need-add-i Inv-loop μ-loop
-add-i c = omega arith
-
-loop-less : tie.Need-loop-less Inv-loop μ-loop
-loop-less c = omega arith
+loop-holds c =
+    let at-start : tie.Start Inv-loop μ-loop = search in
+    let a = at-start .args in
+    put-to-first (a .out .now) (a .at) (a .t .now)
 
 loop-again : tie.Need-loop-again Inv-loop μ-loop
 loop-again c =
-    let l = c .before .before .before .before .before .before .loop in
-    let a = c .before .before .before .before .before .before .before .before .before .args in (
-      omega arith,
-      ap length (c .before .before .put-word .ensures) ∙ length-sets (l .out) (a .at + 8 * l .i) (digits 8 (getD (a .t .now) (l .i) 0)) ∙ l .inv .1,
-      ap (λ (r : List ℕ). sets r (a .at + 8 * (l .i + 1)) (bytesOf (drop (l .i + 1) (a .t .now)))) (c .before .before .put-word .ensures) ∙ table-step (l .out) (a .at) (l .i) (a .t .now) (omega arith) ∙ l .inv .2,
-    )
-
-same-length : tie.Need-same-length Inv-loop μ-loop
-same-length c = c .before .loop .inv .1
+    let at-put-word : tie.After-put-word Inv-loop μ-loop = search in
+    let at-loop : tie.At-loop Inv-loop μ-loop = search in
+    let at-start : tie.Start Inv-loop μ-loop = search in
+    let a = at-start .args in
+    let l = at-loop .loop in
+    put-to-next (a .out .now) (a .at) (a .t .now) (l .out) (l .i) (l .inv) (omega arith) refl (at-put-word .put-word .ensures)
 
 returns : tie.Need-returns Inv-loop μ-loop
 returns c =
+    let at-start : tie.Start Inv-loop μ-loop = search in
+    let a = at-start .args in
     let l = c .before .loop in
-    let a = c .before .before .before .before .args in
-    sym (table-end (l .out) (a .at) (l .i) (a .t .now) (omega arith)) ∙ l .inv .2
+    put-to-last (a .out .now) (a .at) (a .t .now) (l .out) (l .i) (l .inv) (omega arith)
 
 pub put-table-spec : {M : Type 1} → statement M
 put-table-spec =
@@ -64,13 +44,13 @@ put-table-spec =
     Inv-loop
     μ-loop
     loop-holds
-    mul-put-word
-    add-put-word
-    mul-put-word-2
-    shared-slice-read-put-word
-    put-word-requires
-    add-i
-    loop-less
+    (λ c. omega arith)
+    (λ c. omega arith)
+    (λ c. omega arith)
+    (λ c. omega arith)
+    (λ c κs. omega arith)
+    (λ c. omega arith)
+    (λ c. omega arith)
     loop-again
-    same-length
+    (λ c. c .before .loop .inv .0)
     returns)

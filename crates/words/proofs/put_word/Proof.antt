@@ -1,3 +1,5 @@
+-- `words::put_word` meets its contract: eight bytes of a word, the least first. Loop over k, measure 8 − k; invariant: the output keeps its length, and x is
+-- what is left of w, so that its bytes, stored from at + k on, make all eight bytes of w stored. `put-step` is one byte; at k = 8 none is left.
 use mathlib.Core.Path.{_≡_, refl, _∙_, ap}
 use Prim.Native.Nat.{ℕ, _+_, _-_, _%_, _≤_}
 use lib.ListN.{length, length-set}
@@ -17,29 +19,11 @@ abbrev μ-loop : tie.MeasureT-loop
 loop-holds : tie.Need-loop-holds Inv-loop μ-loop
 loop-holds c = (omega arith, refl, ap (λ j. sets (c .args .out .now) j (digits 8 (c .args .w))) (omega arith))
 
-cast-out : tie.Need-cast-out Inv-loop μ-loop
-cast-out c = omega arith
-
-add-out : tie.Need-add-out Inv-loop μ-loop
-add-out c = omega arith
-
-slice-write-out : tie.Need-slice-write-out Inv-loop μ-loop
-slice-write-out c = omega arith
-
-add-k : tie.Need-add-k Inv-loop μ-loop
-add-k c = omega arith
-
-loop-less : tie.Need-loop-less Inv-loop μ-loop
-loop-less c = omega arith
-
 loop-again : tie.Need-loop-again Inv-loop μ-loop
 loop-again c =
     let l = c .before .loop in
     let a = c .before .before .args in
     (omega arith, length-set (l .out) (a .at + l .k) (l .x % 256) ∙ l .inv .1, put-step (l .out) (a .at) (l .k) (l .x) (omega arith) ∙ l .inv .2)
-
-same-length : tie.Need-same-length Inv-loop μ-loop
-same-length c = c .before .loop .inv .1
 
 returns : tie.Need-returns Inv-loop μ-loop
 returns c =
@@ -53,11 +37,11 @@ put-word-spec =
     Inv-loop
     μ-loop
     loop-holds
-    cast-out
-    add-out
-    slice-write-out
-    add-k
-    loop-less
+    (λ c. omega arith)
+    (λ c. omega arith)
+    (λ c. omega arith)
+    (λ c. omega arith)
+    (λ c. omega arith)
     loop-again
-    same-length
+    (λ c. c .before .loop .inv .1)
     returns)

@@ -1,3 +1,6 @@
+-- `calibrator::inner::new` meets its contract: what `check_room` refuses is the answer and nothing changes (`new-refused`), else the three tables are zeroed
+-- and the record is emptied (`new-made`). No loop. `new-made` takes what the three fills ensure; that zeros of the tables' own lengths are the N × N, N × N and
+-- N zeros of `made` follows from what `check_room` answered.
 use mathlib.Core.Path.{sym, _∙_}
 use Rattle.calibrator.proofs.Ways.{new-refused, new-made}
 use borrow.Author.Needs.{needs}

@@ -1,7 +1,8 @@
-use mathlib.Core.Path.{sym, ap, _∙_}
-use Rattle.calibrator.specs.Record.{memory}
-use Rattle.calibrator.specs.Observe.{eventFrom, countedAs}
-use Rattle.calibrator.proofs.Ways.{counted-known}
+-- `calibrator::inner::next_quote` meets its contract: what `neighbours` finds decides, a skip goes to `skip_pair` and a pair to `count_pair`. Each way out is
+-- what the callee ensures, with `neighboursOf` of the two quotes in place of what was found (`way-found`). No loop. `count_pair` asks for states and mids
+-- within bounds, which a pair that two accepted quotes make has (`counted-known`).
+use mathlib.Core.Path.{sym, _∙_}
+use Rattle.calibrator.proofs.Ways.{counted-known, way-found}
 use borrow.Author.Needs.{needs}
 use Rattle.calibrator.proofs.inner.next_quote.Statement.{statement}
 use Rattle.calibrator.proofs.inner.next_quote.Tie as tie
@@ -21,8 +22,8 @@ returns c =
     let at-start : tie.Start = search in
     let a = at-start .args in
     c .skip-pair .ensures _ _ _
-    ∙ ap (λ z. countedAs (a .c) (memory (a .rec) (a .stay .now) (a .moved .now) (a .totals .now)) (a .quote) (eventFrom z))
-    (sym (c .before .before .found .given .1) ∙ at-neighbours .neighbours .ensures)
+    ∙ way-found (a .c) (a .rec .previous) (a .rec .counters) (a .stay .now) (a .moved .now) (a .totals .now) (a .quote) (a .last) _ _
+    (at-neighbours .neighbours .ensures) (c .before .before .found .given .1)
 
 returns-2 : tie.Need-returns-2
 returns-2 c =
@@ -32,8 +33,8 @@ returns-2 c =
     let at-start : tie.Start = search in
     let a = at-start .args in
     at-count-pair .count-pair .ensures
-    ∙ ap (λ z. countedAs (a .c) (memory (a .rec) (a .stay .now) (a .moved .now) (a .totals .now)) (a .quote) (eventFrom z))
-    (sym (at-found2 .found2 .given .1) ∙ at-neighbours .neighbours .ensures)
+    ∙ way-found (a .c) (a .rec .previous) (a .rec .counters) (a .stay .now) (a .moved .now) (a .totals .now) (a .quote) (a .last) _ _
+    (at-neighbours .neighbours .ensures) (at-found2 .found2 .given .1)
 
 pub next-quote-spec : {M : Type 1} → statement M
 next-quote-spec =

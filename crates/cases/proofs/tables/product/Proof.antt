@@ -1,3 +1,5 @@
+-- `cases::tables::product` meets its contract: of factors of at most 255 and 520 the product fits a word (`fits-mul`), and it grows with its first factor
+-- (`mul-le-mul`).
 use native.Mathlib.Omega.{arith}
 use native.Mathlib.Nat.{mul-le-mul}
 use Rattle.basics.proofs.Tests.{fits-mul}

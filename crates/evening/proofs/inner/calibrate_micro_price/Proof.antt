@@ -1,12 +1,10 @@
-use mathlib.Core.Path.{sym, ap, _∙_}
+-- `evening::inner::calibrate_micro_price` meets its contract. Where `check_evening` refuses, nothing was touched (`evening-refused`). Else the part that
+-- `quotes_in` hands out has whole quotes (`part-even`) and the tables have room (`room-is`), which `count_and_fit` asks; its quotes are those inside the
+-- window, so that part counted and fitted is the evening (`evening-is`).
+use mathlib.Core.Path.{sym, _∙_}
 use lib.ListN.{length}
 use Rattle.calibrator.specs.Record.{memory}
-use Rattle.calibrator.specs.Observe.{fresh}
-use Rattle.recording.specs.Recording.{quotesOf, filter}
-use Rattle.recording.specs.Window.{inside}
-use Rattle.recording.specs.Observe.{recorded}
-use Rattle.evening.specs.Evening.{counted, eveningUnless}
-use Rattle.evening.proofs.Evenings.{room-is, part-even, evening-is}
+use Rattle.evening.proofs.Evenings.{room-is, part-even, evening-is, evening-refused}
 use borrow.Author.Needs.{needs}
 use Rattle.evening.proofs.inner.calibrate_micro_price.Statement.{statement}
 use Rattle.evening.proofs.inner.calibrate_micro_price.Tie as tie
@@ -27,9 +25,8 @@ returns : tie.Need-returns
 returns c =
     let at-start : tie.Start = search in
     let a = at-start .args in
-    sym (ap (λ k. eveningUnless k (memory (a .rec) (a .stay .now) (a .moved .now) (a .move-half-ticks .now)) (a .model .now) (a .scratch .now)
-    (counted (a .config) (recorded (a .config) (filter (inside (a .start) (a .end)) (quotesOf (a .recording .now))) 0 (fresh (a .config)))
-    (a .model .now) (a .scratch .now))) (sym (c .before .before .before .check-evening .ensures) ∙ c .before .k .given .1))
+    evening-refused (a .config) (a .recording .now) (a .start) (a .end) (memory (a .rec) (a .stay .now) (a .moved .now) (a .move-half-ticks .now))
+    (a .model .now) (a .scratch .now) (sym (c .before .before .before .check-evening .ensures) ∙ c .before .k .given .1)
 
 returns-2 : tie.Need-returns-2
 returns-2 c =

@@ -1,6 +1,11 @@
-use mathlib.Core.Path.{sym, ap, _∙_}
+-- `evening::inner::check_evening` meets its contract: the window's refusals, those of the configuration and the tables, and 7 for scratch or model are judged
+-- in the definition's order, so each way out is the definition with the tests before it fine. The configuration is valid where the tables have room
+-- (`room-known`), which `state_count` asks; the last two ways out are the two values of the last test (`last-judged`).
+use mathlib.Core.Path.{_≡_, sym, ap, _∙_}
+use Rattle.refusals.specs.Refusals.{refuseIf}
 use Rattle.calibrator.proofs.Room.{room-known}
-use Rattle.fit.specs.Fit.{wrongRoom}
+use Rattle.evening.specs.Evening.{checkLengths}
+use Rattle.evening.proofs.Evenings.{last-judged}
 use borrow.Author.Needs.{needs}
 use Rattle.evening.proofs.inner.check_evening.Statement.{statement}
 use Rattle.evening.proofs.inner.check_evening.Tie as tie
@@ -32,35 +37,24 @@ wrong-room-requires c κs =
     (room-known (a .c) (a .stay) (a .moved) (a .totals)
     (sym (c .before .before .before .check-room .ensures) ∙ c .before .enum-told3 .given .1) .0 .states-most)
 
-returns-3 : tie.Need-returns-3
-returns-3 c =
+-- the answer is that of the last test
+judged : (c : tie.After-wrong-room) → let at-start : tie.Start = search in let a = at-start .args in
+    refuseIf (c .wrong-room .result) 7 ≡ checkLengths (a .c) (a .w .now) (a .start) (a .end) (a .stay) (a .moved) (a .totals) (a .scratch) (a .model)
+judged c =
     let at-check-room : tie.After-check-room = search in
     let at-enum-told : tie.After-enum-told = search in
     let at-check-window : tie.After-check-window = search in
     let at-start : tie.Start = search in
-    rw (
-      ← at-check-window .check-window .ensures,
-      at-enum-told .enum-told .given .1,
-      ← at-check-room .check-room .ensures,
-      c .before .before .before .enum-told3 .given .1,
-      sym (ap (λ n. wrongRoom n (at-start .args .scratch) (at-start .args .model)) (c .before .before .state-count .ensures))
-          ∙ sym (c .before .wrong-room .ensures) ∙ c .if1 .taken,
-    )
+    let a = at-start .args in
+    last-judged (a .c) (a .w .now) (a .start) (a .end) (a .stay) (a .moved) (a .totals) (a .scratch) (a .model)
+    (sym (at-check-window .check-window .ensures) ∙ at-enum-told .enum-told .given .1)
+    (sym (at-check-room .check-room .ensures) ∙ c .before .before .enum-told3 .given .1) (c .before .state-count .ensures) (c .wrong-room .ensures)
+
+returns-3 : tie.Need-returns-3
+returns-3 c = ap (λ b. refuseIf b 7) (sym (c .if1 .taken)) ∙ judged (c .before)
 
 returns-4 : tie.Need-returns-4
-returns-4 c =
-    let at-check-room : tie.After-check-room = search in
-    let at-enum-told : tie.After-enum-told = search in
-    let at-check-window : tie.After-check-window = search in
-    let at-start : tie.Start = search in
-    rw (
-      ← at-check-window .check-window .ensures,
-      at-enum-told .enum-told .given .1,
-      ← at-check-room .check-room .ensures,
-      c .before .before .before .enum-told3 .given .1,
-      sym (ap (λ n. wrongRoom n (at-start .args .scratch) (at-start .args .model)) (c .before .before .state-count .ensures))
-          ∙ sym (c .before .wrong-room .ensures) ∙ c .if1 .left,
-    )
+returns-4 c = ap (λ b. refuseIf b 7) (sym (c .if1 .left)) ∙ judged (c .before)
 
 pub check-evening-spec : {M : Type 1} → statement M
 check-evening-spec =

@@ -1,3 +1,5 @@
+-- `evening::inner::check_window` meets its contract: `window_of` answers a part only where its check is fine (`window-fine`), and a refusal only where that is
+-- the check's (`window-refused`).
 use mathlib.Core.Path.{sym, _∙_}
 use Rattle.evening.proofs.Windows.{window-fine, window-refused}
 use borrow.Author.Needs.{needs}

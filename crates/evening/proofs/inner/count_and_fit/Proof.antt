@@ -1,3 +1,6 @@
+-- `evening::inner::count_and_fit` meets its contract. Its two ways out are the two cases of `countedBy`: a quote stopped the count, and `new` leaves a new
+-- calibrator, as the tables still have the lengths for which there was room (`counted-refused`); or all quotes were counted, and the counts are fitted
+-- (`counted-fitted`). No loop.
 use mathlib.Core.Path.{_∙_}
 use Rattle.calibrator.specs.Observe.{checkRoom}
 use Rattle.evening.proofs.Counting.{counted-fitted, counted-refused}

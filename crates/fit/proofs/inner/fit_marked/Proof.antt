@@ -1,4 +1,6 @@
-use mathlib.Core.Path.{sym, _∙_}
+-- `fit::inner::fit_marked` meets its contract: solve the system, judge the estimates, write them. No loop. The ways out: the solution is refused
+-- (`ends-unsolved`), the estimates are (`ends-refused`), or the table is written (`ends-fitted`). Each law takes what the calls ensure, for a least count for
+-- which the marks are the marks of the cells and one state is used.
 use Rattle.fit.specs.Steps.{givenIn}
 use Rattle.fit.proofs.Ends.{ends-unsolved, ends-refused, ends-fitted}
 use borrow.Author.Needs.{needs}
@@ -11,8 +13,7 @@ returns c least m u =
     let at-start : tie.Start = search in
     let a = at-start .args in
     let G = givenIn (a .n) (a .buckets) (a .tick) least (a .stay .now) (a .moved .now) (a .totals .now) (a .mirrors .now) in
-    rw (c .enum-told2 .given .1)
-    (ends-unsolved (a .rounds) (a .moves) G (a .model .now) u _ (sym (c .enum-told2 .given .1) ∙ at-solve-system .solve-system .ensures least m .answers))
+    ends-unsolved (a .rounds) (a .moves) G (a .model .now) u (at-solve-system .solve-system .ensures least m .answers) (c .enum-told2 .given .1)
 
 returns-2 : tie.Need-returns-2
 returns-2 c least m u =
@@ -22,9 +23,8 @@ returns-2 c least m u =
     let a = at-start .args in
     let G = givenIn (a .n) (a .buckets) (a .tick) least (a .stay .now) (a .moved .now) (a .totals .now) (a .mirrors .now) in
     let s = rw (at-enum-told .enum-told .given .1) at (at-solve-system .solve-system .ensures least m) in
-    rw (c .enum-told4 .given .1)
-    (ends-refused (a .rounds) (a .moves) G (a .model .now) u (at-start .pre .0 .mirrors-below) _ s _
-    (sym (c .enum-told4 .given .1) ∙ c .before .before .judge-estimates .ensures least (a .totals .now) m))
+    ends-refused (a .rounds) (a .moves) G (a .model .now) u (at-start .pre .0 .mirrors-below) _ s
+    (c .before .before .judge-estimates .ensures least (a .totals .now) m) (c .enum-told4 .given .1)
 
 returns-3 : tie.Need-returns-3
 returns-3 c least m u =
@@ -38,8 +38,8 @@ returns-3 c least m u =
     let a = at-start .args in
     let G = givenIn (a .n) (a .buckets) (a .tick) least (a .stay .now) (a .moved .now) (a .totals .now) (a .mirrors .now) in
     let s = rw (at-enum-told .enum-told .given .1) at (at-solve-system .solve-system .ensures least m) in
-    ends-fitted (a .rounds) (a .moves) G (a .model .now) u (at-start .pre .0 .mirrors-below) _ s _
-    (sym (at-enum-told3 .enum-told3 .given .1) ∙ at-judge-estimates .judge-estimates .ensures least (a .totals .now) m)
+    ends-fitted (a .rounds) (a .moves) G (a .model .now) u (at-start .pre .0 .mirrors-below) _ s
+    (at-judge-estimates .judge-estimates .ensures least (a .totals .now) m) (at-enum-told3 .enum-told3 .given .1)
     (at-write-estimates .write-estimates .ensures least (a .totals .now) m)
 
 pub fit-marked-spec : {M : Type 1} → statement M

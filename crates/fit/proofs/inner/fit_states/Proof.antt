@@ -1,3 +1,6 @@
+-- `fit::inner::fit_states` meets its contract: mark the states, and fit them if one is Calibrated. No loop. What `mark_no_price_move` leaves are the marks of
+-- the cells (`marks-of`), so a mark 0 is found exactly if a state is used (`marked-used`). The ways out: none is (`ends-none`), else the fit of the marked
+-- states.
 use mathlib.Core.Path.{sym, _∙_}
 use native.Mathlib.Omega.{arith}
 use borrow.Author.Tests.{not-true, not-false}

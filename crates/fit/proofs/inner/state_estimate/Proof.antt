@@ -1,12 +1,10 @@
-use mathlib.Core.Path.{sym, _∙_}
+-- `fit::inner::state_estimate` meets its contract: state i's estimate, made of what scratch has for it and its mirror, of its observations and of its mark;
+-- where the marks are the marks of the cells that is the row of state i, whatever the least count and the totals (`row-made`). No loop. The callees ask that i
+-- and its mirror are states, and that bucket and spread are small: the remainder and the quotient of i are at most i.
 use native.Mathlib.Nat.{mod-le, div-le-self}
-use Prim.Native.Nat.{_+_}
 use native.Mathlib.Omega.{arith}
-use Rattle.marking.specs.Marks.{cellsOf, markOf}
-use Rattle.marking.proofs.Rows.{any-least}
-use Rattle.quotes.specs.States.{bucketIn, spreadIn}
-use Rattle.estimates.specs.Estimates.{estimateOf}
 use borrow.Author.Needs.{needs}
+use Rattle.fit.proofs.Judging.{row-made}
 use Rattle.fit.proofs.inner.state_estimate.Statement.{statement}
 use Rattle.fit.proofs.inner.state_estimate.Tie as tie
 
@@ -31,15 +29,11 @@ estimate-of-requires c κs =
     (at-start .pre .0 .tick-most, omega (arith, div-le-self (at-start .args .i) (at-start .args .buckets), at-start .pre .0 .few))
 
 returns : tie.Need-returns
-returns c least totals m =
+returns c =
     let at-start : tie.Start = search in
     let a = at-start .args in
-    let C = cellsOf (a .n) least (a .stay .now) (a .moved .now) in
-    c .estimate-of .ensures (markOf C (a .i)) (m .numbers (a .i) (at-start .pre .3))
-    ∙ (λ j.
-    estimateOf (a .tick) (bucketIn (a .buckets) (a .i) + 1) (spreadIn (a .buckets) (a .i)) (markOf C (a .i))
-    ((c .before .before .observations-of .ensures ∙ sym (any-least (a .n) least (a .stay .now) (a .moved .now) (a .i))) j)
-    (c .before .before .before .solved-in .ensures j))
+    row-made (a .n) (a .buckets) (a .tick) (a .stay .now) (a .moved .now) (a .marks .now) (a .mirrors .now) (a .scratch .now) (a .i) (at-start .pre .3)
+    (c .before .before .before .solved-in .ensures) (c .before .before .observations-of .ensures) (c .estimate-of .ensures)
 
 pub state-estimate-spec : {M : Type 1} → statement M
 state-estimate-spec =

@@ -1,3 +1,5 @@
+-- `fit::inner::wrong_room` meets its contract: two lengths compared with their formulas, which is the definition; the product is at most 256 × 522
+-- (`fits-mul`).
 use native.Mathlib.Omega.{arith}
 use Rattle.basics.proofs.Tests.{fits-mul}
 use borrow.Author.Needs.{needs}

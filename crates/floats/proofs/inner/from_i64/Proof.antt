@@ -1,3 +1,5 @@
+-- `floats::inner::from_i64` meets its contract: the machine's cast asks that binary64 holds the number exactly, which the contract requires. The cast reads the
+-- number back from its bits, and that is the same number (`toZ-ofZ`).
 use mathlib.Core.Path.{sym, ap, _∙_, subst}
 use lib.Dec.{T}
 use lib.IntN.{ℤ}

@@ -1,11 +1,13 @@
+-- `image::inner::check_restore` meets its contract, refusals in order with one law for each way out: under 160 bytes (12, `way-short`), no valid configuration
+-- (1, `way-invalid`), not laid out (12, `way-layout`), else what `check_held` says (`way-held`). `check_held` asks for a valid configuration (`valid-known`)
+-- and for the image's length, which an image that is laid out has (`laid-out-whole`).
+use mathlib.Core.Path.{sym, ap, _∙_}
+use borrow.Author.Tests.{not-false}
+use Rattle.config.proofs.Known.{valid-known}
 use Rattle.tally.specs.Entries.{tables}
-use Rattle.config.specs.Configuration.{valid}
+use Rattle.layout.specs.Layout.{imageLength}
 use Rattle.image.proofs.Ways.{way-short, way-invalid, way-layout, way-held}
 use Rattle.image.proofs.Judged.{laid-out-whole}
-use mathlib.Core.Path.{sym, ap, _∙_}
-use borrow.Author.Tests.{lt-ltb, le-ltb, not-true, not-false}
-use Rattle.config.proofs.Known.{valid-known}
-use Rattle.layout.specs.Layout.{imageLength}
 use borrow.Author.Needs.{needs}
 use Rattle.image.proofs.inner.check_restore.Statement.{statement}
 use Rattle.image.proofs.inner.check_restore.Tie as tie
@@ -13,14 +15,15 @@ use Rattle.image.proofs.inner.check_restore.Tie as tie
 returns : tie.Need-returns
 returns c =
     let at-start : tie.Start = search in
-    let a = at-start .args in way-short (a .b .now) (tables (a .stay .now) (a .moved .now) (a .totals .now)) (lt-ltb _ _ (c .if1 .taken))
+    let a = at-start .args in
+    way-short (a .b .now) (tables (a .stay .now) (a .moved .now) (a .totals .now)) (c .if1 .taken)
 
 returns-2 : tie.Need-returns-2
 returns-2 c =
     let at-start : tie.Start = search in
     let a = at-start .args in
-    way-invalid (a .b .now) (tables (a .stay .now) (a .moved .now) (a .totals .now)) (le-ltb _ _ (c .before .before .before .if1 .left))
-    (ap valid (sym (c .before .before .config-in .ensures)) ∙ sym (c .before .is-valid .ensures) ∙ not-true _ (c .if2 .taken))
+    way-invalid (a .b .now) (tables (a .stay .now) (a .moved .now) (a .totals .now)) (c .before .before .before .if1 .left)
+    (c .before .before .config-in .ensures) (c .before .is-valid .ensures) (c .if2 .taken)
 
 is-laid-out-requires : tie.Need-is-laid-out-requires
 is-laid-out-requires c κs =
@@ -38,20 +41,19 @@ returns-3 c =
     let at-else1 : tie.Else1 = search in
     let at-start : tie.Start = search in
     let a = at-start .args in
-    way-layout (a .b .now) (tables (a .stay .now) (a .moved .now) (a .totals .now)) (le-ltb _ _ (at-else1 .if1 .left))
-    (ap valid (sym (at-config-in .config-in .ensures)) ∙ sym (at-is-valid .is-valid .ensures) ∙ not-false _ (c .before .before .before .if2 .left))
-    (sym (c .before .is-laid-out .ensures) ∙ not-true _ (c .if3 .taken))
+    way-layout (a .b .now) (tables (a .stay .now) (a .moved .now) (a .totals .now)) (at-else1 .if1 .left) (at-config-in .config-in .ensures)
+    (at-is-valid .is-valid .ensures) (c .before .before .before .if2 .left) (c .before .is-laid-out .ensures) (c .if3 .taken)
 
 check-held-requires : tie.Need-check-held-requires
 check-held-requires c κs =
     let at-is-valid : tie.After-is-valid = search in
     let at-config-in : tie.After-config-in = search in
-    let at-start : tie.Start = search in
-    let a = at-start .args in (
+    let at-start : tie.Start = search in (
       valid-known _ (sym (at-is-valid .is-valid .ensures) ∙ not-false _ (c .before .before .before .if2 .left)),
       at-config-in .config-in .ensures,
       c .before .before .record-in .ensures,
-      laid-out-whole (a .b .now) (sym (c .before .is-laid-out .ensures) ∙ not-false _ (c .if3 .left)) ∙ ap imageLength (sym (at-config-in .config-in .ensures)),
+      laid-out-whole (at-start .args .b .now) (sym (c .before .is-laid-out .ensures) ∙ not-false _ (c .if3 .left))
+          ∙ ap imageLength (sym (at-config-in .config-in .ensures)),
     )
 
 returns-4 : tie.Need-returns-4
@@ -62,10 +64,8 @@ returns-4 c =
     let at-else1 : tie.Else1 = search in
     let at-start : tie.Start = search in
     let a = at-start .args in
-    c .check-held .ensures
-    ∙ way-held (a .b .now) (tables (a .stay .now) (a .moved .now) (a .totals .now)) (le-ltb _ _ (at-else1 .if1 .left))
-    (ap valid (sym (at-config-in .config-in .ensures)) ∙ sym (at-is-valid .is-valid .ensures) ∙ not-false _ (at-else2 .if2 .left))
-    (sym (c .before .before .is-laid-out .ensures) ∙ not-false _ (c .before .if3 .left))
+    way-held (a .b .now) (tables (a .stay .now) (a .moved .now) (a .totals .now)) (at-else1 .if1 .left) (at-config-in .config-in .ensures)
+    (at-is-valid .is-valid .ensures) (at-else2 .if2 .left) (c .before .before .is-laid-out .ensures) (c .before .if3 .left) (c .check-held .ensures)
 
 pub check-restore-spec : {M : Type 1} → statement M
 check-restore-spec =

@@ -1,8 +1,14 @@
-use mathlib.Core.Path.{sym, _∙_}
+-- `image::inner::check_save` meets its contract, refusals in the order of document 01: the room (1, 7), the output's length (7), the last quote (8), the counts
+-- (6, 9 to 11). Each way out rewrites the answers and tests before it. Past the first test the configuration is valid and the tables have its lengths
+-- (`known`), which is what the callees ask.
+use mathlib.Core.Path.{_≡_, sym, _∙_}
+use mathlib.Core.Bool.{false}
 use lib.ListN.{length}
 use borrow.Author.Tests.{eq-eqb, ne-eqb}
-use Rattle.calibrator.proofs.Room.{room-known, lengths-known}
 use Rattle.config.specs.Configuration.{states}
+use Rattle.config.specs.Known.{Valid}
+use Rattle.calibrator.specs.Observe.{wrongLengths}
+use Rattle.calibrator.proofs.Room.{room-known, lengths-known}
 use borrow.Author.Needs.{needs}
 use Rattle.image.proofs.inner.check_save.Statement.{statement}
 use Rattle.image.proofs.inner.check_save.Tie as tie
@@ -10,10 +16,13 @@ use Rattle.image.proofs.inner.check_save.Tie as tie
 returns : tie.Need-returns
 returns c = rw (← c .before .before .check-room .ensures, c .enum-told2 .given .1)
 
+-- past the first test the configuration is valid and the tables have its lengths
+known : (c : tie.After-enum-told) → let at-start : tie.Start = search in let a = at-start .args in
+    Valid (a .c) × (wrongLengths (states (a .c)) (length (a .stay .now)) (length (a .moved .now)) (length (a .totals .now)) ≡ false)
+known c = room-known _ _ _ _ (sym (c .before .before .check-room .ensures) ∙ c .enum-told .given .1)
+
 image-length-requires : tie.Need-image-length-requires
-image-length-requires c κs =
-    let at-start : tie.Start = search in
-    let a = at-start .args in room-known (a .c) _ _ _ (sym (c .before .before .check-room .ensures) ∙ c .enum-told .given .1) .0
+image-length-requires c κs = known c .0
 
 returns-2 : tie.Need-returns-2
 returns-2 c =
@@ -25,10 +34,7 @@ returns-2 c =
     )
 
 is-broken-requires : tie.Need-is-broken-requires
-is-broken-requires c κs =
-    let at-check-room : tie.After-check-room = search in
-    let at-start : tie.Start = search in
-    let a = at-start .args in room-known (a .c) _ _ _ (sym (at-check-room .check-room .ensures) ∙ c .before .before .enum-told .given .1) .0 .tick-least
+is-broken-requires c κs = known (c .before .before) .0 .tick-least
 
 returns-3 : tie.Need-returns-3
 returns-3 c =
@@ -45,13 +51,9 @@ returns-3 c =
 check-mirrored-counts-requires : tie.Need-check-mirrored-counts-requires
 check-mirrored-counts-requires c κs =
     let at-enum-told : tie.After-enum-told = search in
-    let at-check-room : tie.After-check-room = search in
-    let at-start : tie.Start = search in
-    let a = at-start .args in
-    let v = room-known (a .c) (length (a .stay .now)) (length (a .moved .now)) (length (a .totals .now))
-    (sym (at-check-room .check-room .ensures) ∙ at-enum-told .enum-told .given .1) in
-    let z = lengths-known (states (a .c)) (length (a .stay .now)) (length (a .moved .now)) (length (a .totals .now)) (v .1) in
-    (v .0, z .stay-cells, z .moved-cells, z .totals-cells)
+    let k = known at-enum-told in
+    let z = lengths-known _ _ _ _ (k .1) in
+    (k .0, z .stay-cells, z .moved-cells, z .totals-cells)
 
 returns-4 : tie.Need-returns-4
 returns-4 c =

@@ -1,3 +1,5 @@
+-- `image::inner::is_broken` meets its contract: without a last quote nothing is broken; with one the answer is whether `check_quote` refuses it, which is the
+-- definition. Each way out rewrites the variants that were found.
 use borrow.Author.Needs.{needs}
 use Rattle.image.proofs.inner.is_broken.Statement.{statement}
 use Rattle.image.proofs.inner.is_broken.Tie as tie

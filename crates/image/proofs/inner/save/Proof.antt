@@ -1,3 +1,5 @@
+-- `image::inner::save` meets its contract: refused by `check_save`, the output is as it came; else `write_image` fills it with the image. That nothing refuses
+-- gives what writing asks: a valid configuration, tables of its lengths, an output of the image's length (`save-known`).
 use mathlib.Core.Path.{sym, _∙_}
 use lib.ListN.{length}
 use Rattle.calibrator.specs.Record.{memory}

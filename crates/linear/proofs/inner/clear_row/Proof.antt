@@ -1,3 +1,5 @@
+-- `linear::inner::clear_row` meets its contract: column c of row r is cleared by row c. No loop. Where the factor equals zero the row stays as it is, and that
+-- is the cleared row (`clear-none`); else the row less the factor times row c is (`clear-some`). The callee asks that the two rows are apart (`rows-apart`).
 use native.Mathlib.Omega.{arith}
 use Rattle.linear.proofs.Parts.{rows-apart}
 use Rattle.linear.proofs.Rows.{clear-none, clear-some}

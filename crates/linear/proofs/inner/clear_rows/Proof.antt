@@ -1,7 +1,10 @@
+-- `linear::inner::clear_rows` meets its contract: column c of rows lo to hi − 1 is cleared by row c. Invariant: rows lo to r − 1 are cleared, all else is as it
+-- was (`ClearedRows`). Measure: hi − r. Row c lies outside rows lo to hi − 1, so it still holds what it held at entry, and row r is not written yet: the callee
+-- clears row r as the contract says (`cleared-rows-more`). At the end r is hi.
 use native.Mathlib.Omega.{arith}
-use Prim.Native.Nat.{_≤_, _-_}
+use Prim.Native.Nat.{_-_, _<_, _≤_}
 use mathlib.Core.Path.{_≡_, refl}
-use mathlib.Core.Logic.{inl, inr, ⊎-elim}
+use mathlib.Core.Logic.{_⊎_, inl, inr, ⊎-elim}
 use lib.ListN.{length}
 use Rattle.basics.proofs.Tests.{row-in}
 use Rattle.linear.specs.Loops.{ClearedRows}
@@ -14,9 +17,6 @@ Inv-loop rows₀ w c lo hi r₀ rows r = (lo ≤ r) × (r ≤ hi) × (length row
 
 abbrev μ-loop : tie.MeasureT-loop
 μ-loop rows₀ w c lo hi r₀ rows r = hi - r
-
-loop-holds : tie.Need-loop-holds Inv-loop μ-loop
-loop-holds c = (omega arith, omega arith, refl, cleared-rows-none)
 
 clear-row-requires : tie.Need-clear-row-requires Inv-loop μ-loop
 clear-row-requires c κs =
@@ -32,13 +32,10 @@ loop-again : tie.Need-loop-again Inv-loop μ-loop
 loop-again c =
     let at-loop : tie.At-loop Inv-loop μ-loop = search in
     let at-start : tie.Start Inv-loop μ-loop = search in
-    let a = at-start .args in (
-      omega arith,
-      omega arith,
-      omega arith,
-      cleared-rows-more (a .w) (a .c) (a .lo) (at-loop .loop .r) _ _ _ (omega arith) (omega arith)
-          (⊎-elim (λ q. inl q) (λ q. inr (omega arith)) (at-start .pre .4)) (at-loop .loop .inv .3) (c .before .before .clear-row .ensures),
-    )
+    let a = at-start .args in
+    let apart : (a .c < a .lo) ⊎ (at-loop .loop .r < a .c) = ⊎-elim (λ q. inl q) (λ q. inr (omega arith)) (at-start .pre .4) in
+    let more = cleared-rows-more (omega arith) (omega arith) apart (at-loop .loop .inv .3) (c .before .before .clear-row .ensures) in
+    (omega arith, omega arith, omega arith, more)
 
 returns : tie.Need-returns Inv-loop μ-loop
 returns c =
@@ -51,7 +48,7 @@ clear-rows-spec =
     (tie.spec
     Inv-loop
     μ-loop
-    loop-holds
+    (λ c. (omega arith, omega arith, refl, cleared-rows-none))
     clear-row-requires
     (λ c. omega arith)
     (λ c. omega arith)

@@ -1,3 +1,5 @@
+-- `linear::inner::divide_row` meets its contract: w floats from `start` on are divided. Invariant: the first k hold their quotients, all else is as it was
+-- (`Filling`). Measure: w − k. The float that is divided is not written yet (`filling-ahead`), so its quotient is the next of the part (`filling-more`).
 use native.Mathlib.Omega.{arith}
 use Prim.Native.Nat.{_-_, _+_}
 use mathlib.Core.Path.{ap}

@@ -1,93 +1,49 @@
-use borrow.Author.Needs.{needs}
-use native.Mathlib.Omega.{arith}
-use Prim.Native.Nat.{_≤_, _<_, _-_, _+_}
-use mathlib.Core.Path.{_≡_, sym, ap, _∙_}
+-- `linear::inner::find_pivot` meets its contract: the row of the greatest size in column c, from the diagonal down. Invariant: of rows c to r − 1, `best` is
+-- the row that `pivotRow` finds and `most` is its size (`Pivoting`). Measure: n − r. Row r is taken where it is as great (`pivoting-taken`), else the best
+-- stays (`pivoting-left`). At the end r is n. Each read lies in a row below n (`row-in`).
+use Prim.Native.Nat.{ℕ, _-_, _+_, _*_, _<_, _≤_}
+use mathlib.Core.Path.{_≡_}
 use mathlib.Core.Logic.{⊎-elim}
+use native.Mathlib.Omega.{arith}
+use borrow.Author.Needs.{needs}
 use Rattle.basics.proofs.Tests.{row-in}
-use Rattle.floats.specs.Floats.{abs, asGreat}
-use Rattle.linear.specs.Arithmetic.{rounded}
-use Rattle.linear.specs.Elimination.{pivotRow}
 use Rattle.linear.specs.Flat.{rowsOf}
-use Rattle.linear.proofs.Pivot.{pivot-first, pivot-taken, pivot-left}
+use Rattle.linear.proofs.Pivot.{Pivoting, pivoting-none, pivoting-taken, pivoting-left}
 use Rattle.linear.proofs.inner.find_pivot.Statement.{statement}
 use Rattle.linear.proofs.inner.find_pivot.Tie as tie
 
 abbrev Inv-loop : tie.InvT-loop
-Inv-loop rows n w c best₀ most₀ r₀ best most r =
-    (c < r) × (r ≤ n) × (best < n) × (best ≡ pivotRow rounded (rowsOf w rows) c (r - (c + 1))) × (most ≡ abs (rowsOf w rows best c))
+Inv-loop rows n w c best₀ most₀ r₀ best most r = Pivoting n (rowsOf w rows) c best most r
 
 abbrev μ-loop : tie.MeasureT-loop
 μ-loop rows n w c best₀ most₀ r₀ best most r = n - r
 
-mul-abs : tie.Need-mul-abs Inv-loop μ-loop
-mul-abs c = omega (arith, row-in (c .before .args .c) (c .before .args .n) (c .before .args .w) (omega arith))
+-- a row below n lies in the n rows, and so does row c
+row : (c : tie.Start Inv-loop μ-loop) (r : ℕ) → let a = c .args in r < a .n → r * a .w + a .w ≤ a .n * a .w
+row c r = let a = c .args in row-in r (a .n) (a .w)
 
-add-abs : tie.Need-add-abs Inv-loop μ-loop
-add-abs c = omega (arith, row-in (c .before .args .c) (c .before .args .n) (c .before .args .w) (omega arith))
-
-mul-abs-2 : tie.Need-mul-abs-2 Inv-loop μ-loop
-mul-abs-2 c = omega (arith, row-in (c .before .args .c) (c .before .args .n) (c .before .args .w) (omega arith))
-
-shared-slice-read-abs : tie.Need-shared-slice-read-abs Inv-loop μ-loop
-shared-slice-read-abs c =
-    let at-start : tie.Start Inv-loop μ-loop = search in
-    omega (arith, row-in (at-start .args .c) (at-start .args .n) (at-start .args .w) (omega arith))
-
-loop-holds : tie.Need-loop-holds Inv-loop μ-loop
-loop-holds c = (omega arith, omega arith, omega arith, pivot-first rounded _ _, c .abs .ensures)
-
-mul-abs-3 : tie.Need-mul-abs-3 Inv-loop μ-loop
-mul-abs-3 c =
-    let at-start : tie.Start Inv-loop μ-loop = search in
-    omega (arith, row-in (c .before .loop .r) (at-start .args .n) (at-start .args .w) (omega arith))
-
-add-abs-2 : tie.Need-add-abs-2 Inv-loop μ-loop
-add-abs-2 c =
-    let at-start : tie.Start Inv-loop μ-loop = search in
-    omega (arith, row-in (c .before .loop .r) (at-start .args .n) (at-start .args .w) (omega arith))
-
-mul-abs-4 : tie.Need-mul-abs-4 Inv-loop μ-loop
-mul-abs-4 c =
-    let at-start : tie.Start Inv-loop μ-loop = search in
-    omega (arith, row-in (c .before .loop .r) (at-start .args .n) (at-start .args .w) (omega arith))
-
-shared-slice-read-abs-2 : tie.Need-shared-slice-read-abs-2 Inv-loop μ-loop
-shared-slice-read-abs-2 c =
-    let at-start : tie.Start Inv-loop μ-loop = search in
-    omega (arith, row-in (c .before .before .loop .r) (at-start .args .n) (at-start .args .w) (omega arith))
+first : (c : tie.Start Inv-loop μ-loop) → let a = c .args in a .c * a .w + a .w ≤ a .n * a .w
+first c = row c (c .args .c) (c .pre .0)
 
 loop-again : tie.Need-loop-again Inv-loop μ-loop
 loop-again c =
     let at-loop : tie.At-loop Inv-loop μ-loop = search in
-    let at-start : tie.Start Inv-loop μ-loop = search in
-    let a = at-start .args in
-    let A = rowsOf (a .w) (a .rows .now) in
-    let i = at-loop .loop .inv in
-    let size : _ ≡ abs (A (at-loop .loop .r) (a .c)) = c .before .before .abs2 .ensures in
-    let e : asGreat (abs (A (at-loop .loop .best) (a .c))) (abs (A (at-loop .loop .r) (a .c))) ≡ c .before .as-great .result = rw (← i .4, ← size)
-    (sym (c .before .as-great .ensures)) in
+    let in-loop : tie.In-loop Inv-loop μ-loop = search in
+    let s = at-loop .loop .inv in
+    let more = in-loop .loop-test .taken in
+    let size = c .before .before .abs2 .ensures in
+    let tested = c .before .as-great .ensures in
     ⊎-elim
-    (λ w. (
-      omega arith,
-      omega arith,
-      omega arith,
-      w .1 ∙ pivot-taken rounded A (a .c) (at-loop .loop .r) (at-loop .loop .best) (i .0) (i .3) (e ∙ w .0 .taken),
-      w .2 ∙ size ∙ ap (λ r. abs (A r (a .c))) (sym (w .1)),
-    ))
-    (λ w. (
-      omega arith,
-      omega arith,
-      omega arith,
-      w .1 ∙ pivot-left rounded A (a .c) (at-loop .loop .r) (at-loop .loop .best) (i .0) (i .3) (e ∙ w .0 .left),
-      w .2 ∙ i .4 ∙ ap (λ r. abs (A r (a .c))) (sym (w .1)),
-    ))
+    (λ w. pivoting-taken s more size tested (w .0 .taken) (w .1) (w .2))
+    (λ w. pivoting-left s more size tested (w .0 .left) (w .1) (w .2))
     (c .if1 .came)
 
 returns : tie.Need-returns Inv-loop μ-loop
 returns c =
     let at-start : tie.Start Inv-loop μ-loop = search in
+    let s = c .before .loop .inv in
     let done : c .before .loop .r ≡ at-start .args .n = omega arith in
-    (omega arith, rw done at (c .before .loop .inv .3))
+    (s .row, rw done at (s .is))
 
 pub find-pivot-spec : {M : Type 1} → statement M
 find-pivot-spec =
@@ -95,17 +51,17 @@ find-pivot-spec =
     (tie.spec
     Inv-loop
     μ-loop
-    mul-abs
-    add-abs
-    mul-abs-2
-    shared-slice-read-abs
+    (λ c. omega (arith, first (search)))
+    (λ c. omega (arith, first (search)))
+    (λ c. omega (arith, first (search)))
+    (λ c. omega (arith, first (search)))
     (λ c κs. search needs)
     (λ c. omega arith)
-    loop-holds
-    mul-abs-3
-    add-abs-2
-    mul-abs-4
-    shared-slice-read-abs-2
+    (λ c. pivoting-none (omega arith) (c .abs .ensures))
+    (λ c. omega (arith, row (search) (c .before .loop .r) (omega arith)))
+    (λ c. omega (arith, row (search) (c .before .loop .r) (omega arith)))
+    (λ c. omega (arith, row (search) (c .before .loop .r) (omega arith)))
+    (λ c. omega (arith, row (search) (c .before .before .loop .r) (omega arith)))
     (λ c κs. search needs)
     (λ c κs. search needs)
     (λ c. omega arith)

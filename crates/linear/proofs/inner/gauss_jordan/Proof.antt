@@ -1,5 +1,8 @@
+-- `linear::inner::gauss_jordan` meets its contract: one column after the other is solved. Invariant: the rows hold the matrix with its first c columns solved
+-- (`Eliminated` of `columnsSolved`). Measure: n − c. A column that is solved is one more (`columns-more`). The ways out: a singular column makes the whole
+-- singular (`columns-singular`); where c is n, the invariant is the contract.
 use native.Mathlib.Omega.{arith}
-use Prim.Native.Nat.{_≤_, _-_, _+_}
+use Prim.Native.Nat.{_≤_, _-_}
 use mathlib.Core.Path.{_≡_, refl}
 use lib.ListN.{length}
 use Rattle.linear.specs.Arithmetic.{rounded}
@@ -16,32 +19,25 @@ Inv-loop rows₀ n w c₀ rows c = (c ≤ n) × (length rows ≡ length rows₀)
 abbrev μ-loop : tie.MeasureT-loop
 μ-loop rows₀ n w c₀ rows c = n - c
 
-loop-holds : tie.Need-loop-holds Inv-loop μ-loop
-loop-holds c = (omega arith, refl, columns-none)
-
 returns : tie.Need-returns Inv-loop μ-loop
 returns c =
     let at-reduce-column : tie.After-reduce-column Inv-loop μ-loop = search in
     let at-loop : tie.At-loop Inv-loop μ-loop = search in
     let at-start : tie.Start Inv-loop μ-loop = search in
     let a = at-start .args in
-    columns-singular (a .n) (a .w) (at-loop .loop .c + 1) _ _ (omega arith)
-    (rw (c .enum-told2 .given .1) at
-    (columns-more (a .n) (a .w) (at-loop .loop .c) (omega arith) (omega arith) _ _ _ (at-reduce-column .reduce-column .result) (at-loop .loop .inv .2)
-    (at-reduce-column .reduce-column .ensures)))
+    let s = at-loop .loop .inv .2 in
+    let e = at-reduce-column .reduce-column .ensures in
+    columns-singular (a .n) (a .w) (at-loop .loop .c) (omega arith) (omega arith) s e (c .enum-told2 .given .1)
 
 loop-again : tie.Need-loop-again Inv-loop μ-loop
 loop-again c =
     let at-reduce-column : tie.After-reduce-column Inv-loop μ-loop = search in
     let at-loop : tie.At-loop Inv-loop μ-loop = search in
     let at-start : tie.Start Inv-loop μ-loop = search in
-    let a = at-start .args in (
-      omega arith,
-      omega arith,
-      rw (c .enum-told .given .1) at
-          (columns-more (a .n) (a .w) (at-loop .loop .c) (omega arith) (omega arith) _ _ _ (at-reduce-column .reduce-column .result) (at-loop .loop .inv .2)
-          (at-reduce-column .reduce-column .ensures)),
-    )
+    let a = at-start .args in
+    let s = at-loop .loop .inv .2 in
+    let e = at-reduce-column .reduce-column .ensures in
+    (omega arith, omega arith, columns-more (a .n) (a .w) (at-loop .loop .c) (omega arith) (omega arith) s e (c .enum-told .given .1))
 
 returns-2 : tie.Need-returns-2 Inv-loop μ-loop
 returns-2 c =
@@ -54,7 +50,7 @@ gauss-jordan-spec =
     (tie.spec
     Inv-loop
     μ-loop
-    loop-holds
+    (λ c. (omega arith, refl, columns-none))
     (λ c κs. omega arith)
     (λ c. omega arith)
     (λ c. omega arith)

@@ -1,83 +1,30 @@
-use native.Mathlib.Omega.{arith}
+-- `linear::inner::reduce_column` meets its contract: column c is solved by its pivot. No loop. The ways out: the pivot's size is below 1e-12, and nothing is
+-- written (`column-singular`); or rows c and `best` change places, row c is divided by the pivot and all others are cleared by it, which makes the reduced
+-- matrix (`column-solved`). Each read lies in row c or in row `best`, and each of them lies in the n rows (`row-in`).
+use Prim.Native.Nat.{_+_, _*_, _≤_}
 use mathlib.Core.Logic.{inl, inr}
-use Rattle.basics.proofs.Tests.{row-in}
-use Rattle.linear.proofs.Rows.{column-becomes}
-use Rattle.linear.proofs.Columns.{column-singular, column-solved}
+use native.Mathlib.Omega.{arith}
 use borrow.Author.Needs.{needs}
+use Rattle.basics.proofs.Tests.{row-in}
+use Rattle.linear.proofs.Columns.{column-singular, column-solved}
 use Rattle.linear.proofs.inner.reduce_column.Statement.{statement}
 use Rattle.linear.proofs.inner.reduce_column.Tie as tie
 
-mul-abs : tie.Need-mul-abs
-mul-abs c =
-    let at-start : tie.Start = search in
-    omega (arith, row-in (c .find-pivot .result) (at-start .args .n) (at-start .args .w) (omega arith))
+-- row c lies in the n rows
+own-row : (c : tie.Start) → let a = c .args in a .c * a .w + a .w ≤ a .n * a .w
+own-row c = let a = c .args in row-in (a .c) (a .n) (a .w) (c .pre .0)
 
-add-abs : tie.Need-add-abs
-add-abs c =
-    let at-start : tie.Start = search in
-    omega (arith, row-in (c .find-pivot .result) (at-start .args .n) (at-start .args .w) (omega arith))
-
-mul-abs-2 : tie.Need-mul-abs-2
-mul-abs-2 c =
-    let at-start : tie.Start = search in
-    omega (arith, row-in (c .find-pivot .result) (at-start .args .n) (at-start .args .w) (omega arith))
-
-slice-read-abs : tie.Need-slice-read-abs
-slice-read-abs c =
-    let at-start : tie.Start = search in
-    omega (arith, row-in (c .before .find-pivot .result) (at-start .args .n) (at-start .args .w) (omega arith))
+-- the pivot's row lies in the n rows
+best-row : (c : tie.After-find-pivot) → let a = c .before .before .before .args in c .find-pivot .result * a .w + a .w ≤ a .n * a .w
+best-row c = let a = c .before .before .before .args in row-in (c .find-pivot .result) (a .n) (a .w) (c .find-pivot .ensures .0)
 
 returns : tie.Need-returns
 returns c =
     let at-find-pivot : tie.After-find-pivot = search in
     let at-start : tie.Start = search in
-    column-singular (at-start .args .n) (at-start .args .w) (at-start .args .c) (at-find-pivot .find-pivot .result) _ _ (at-find-pivot .find-pivot .ensures .1)
-    (c .before .abs .ensures) (c .if1 .taken)
-
-swap-rows-requires : tie.Need-swap-rows-requires
-swap-rows-requires c κs =
-    let at-find-pivot : tie.After-find-pivot = search in
-    let at-start : tie.Start = search in
     let a = at-start .args in
-    omega (arith, row-in (a .c) (a .n) (a .w) (omega arith), row-in (at-find-pivot .find-pivot .result) (a .n) (a .w) (omega arith))
-
-mul-start : tie.Need-mul-start
-mul-start c =
-    let at-start : tie.Start = search in
-    omega (arith, row-in (at-start .args .c) (at-start .args .n) (at-start .args .w) (omega arith))
-
-add-pivot : tie.Need-add-pivot
-add-pivot c =
-    let at-start : tie.Start = search in
-    omega (arith, row-in (at-start .args .c) (at-start .args .n) (at-start .args .w) (omega arith))
-
-mul-pivot : tie.Need-mul-pivot
-mul-pivot c =
-    let at-start : tie.Start = search in
-    omega (arith, row-in (at-start .args .c) (at-start .args .n) (at-start .args .w) (omega arith))
-
-slice-read-pivot : tie.Need-slice-read-pivot
-slice-read-pivot c =
-    let at-start : tie.Start = search in
-    omega (arith, row-in (at-start .args .c) (at-start .args .n) (at-start .args .w) (omega arith))
-
-divide-row-requires : tie.Need-divide-row-requires
-divide-row-requires c κs =
-    let at-start : tie.Start = search in
-    omega (arith, row-in (at-start .args .c) (at-start .args .n) (at-start .args .w) (omega arith))
-
-clear-rows-requires : tie.Need-clear-rows-requires
-clear-rows-requires c κs =
-    let at-start : tie.Start = search in
-    let r = row-in (at-start .args .c) (at-start .args .n) (at-start .args .w) (omega arith) in
-    (omega arith, omega arith, omega arith, omega arith, inr (omega arith))
-
-clear-rows-requires-2 : tie.Need-clear-rows-requires-2
-clear-rows-requires-2 c κs =
-    let at-abs : tie.After-abs = search in
-    let at-start : tie.Start = search in
-    let r = row-in (at-start .args .c) (at-start .args .n) (at-start .args .w) (omega arith) in
-    (omega arith, omega arith, omega arith, omega arith, inl (omega arith))
+    let pivot = at-find-pivot .find-pivot in
+    column-singular (a .n) (a .w) (a .c) (pivot .result) (pivot .ensures) (c .before .abs .ensures) (c .if1 .taken)
 
 returns-2 : tie.Need-returns-2
 returns-2 c =
@@ -89,31 +36,30 @@ returns-2 c =
     let at-find-pivot : tie.After-find-pivot = search in
     let at-start : tie.Start = search in
     let a = at-start .args in
-    column-solved (a .n) (a .w) (a .c) (at-find-pivot .find-pivot .result) _ _ (at-find-pivot .find-pivot .ensures .1) (at-abs .abs .ensures) _
-    (at-else1 .if1 .left)
-    (column-becomes (a .n) (a .w) (a .c) (at-find-pivot .find-pivot .result) (omega arith) (omega arith) (omega arith) _ _ _ _ _
-    (at-swap-rows .swap-rows .ensures) (at-divide-row .divide-row .ensures) (at-clear-rows .clear-rows .ensures) (c .before .before .clear-rows2 .ensures))
+    let pivot = at-find-pivot .find-pivot in
+    column-solved (a .n) (a .w) (a .c) (pivot .result) (pivot .ensures) (at-abs .abs .ensures) (at-start .pre .0) (at-start .pre .1) (at-else1 .if1 .left)
+    (at-swap-rows .swap-rows .ensures) (at-divide-row .divide-row .ensures) (at-clear-rows .clear-rows .ensures) (c .before .before .clear-rows2 .ensures)
 
 pub reduce-column-spec : {M : Type 1} → statement M
 reduce-column-spec =
     tie.close
     (tie.spec
     (λ c κs. search needs)
-    mul-abs
-    add-abs
-    mul-abs-2
-    slice-read-abs
+    (λ c. omega (arith, best-row c))
+    (λ c. omega (arith, best-row c))
+    (λ c. omega (arith, best-row c))
+    (λ c. omega (arith, best-row (c .before)))
     (λ c κs. search needs)
     (λ c. search needs)
     returns
-    swap-rows-requires
-    mul-start
-    add-pivot
-    mul-pivot
-    slice-read-pivot
-    divide-row-requires
-    clear-rows-requires
+    (λ c κs. omega (arith, own-row (search), best-row (search)))
+    (λ c. omega (arith, own-row (search)))
+    (λ c. omega (arith, own-row (search)))
+    (λ c. omega (arith, own-row (search)))
+    (λ c. omega (arith, own-row (search)))
+    (λ c κs. omega (arith, own-row (search)))
+    (λ c κs. let row = own-row (search) in (omega arith, omega arith, omega arith, omega arith, inr (omega arith)))
     (λ c. search needs)
-    clear-rows-requires-2
+    (λ c κs. let row = own-row (search) in (omega arith, omega arith, omega arith, omega arith, inl (omega arith)))
     (λ c. search needs)
     returns-2)

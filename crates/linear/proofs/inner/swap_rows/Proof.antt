@@ -1,3 +1,6 @@
+-- `linear::inner::swap_rows` meets its contract: rows c and p change places. A row with itself: nothing is done (`swapped-self`). Else the invariant: the first
+-- k floats of the two rows have changed places, all else is as it was (`Swapped`). Measure: w − k. Two rows are apart (`rows-apart`), so one exchange touches
+-- no other float of them (`swapped-more`). At the end k is w.
 use native.Mathlib.Omega.{arith}
 use Prim.Native.Nat.{_≤_, _-_}
 use mathlib.Core.Path.{_≡_, refl}
@@ -12,12 +15,6 @@ Inv-loop rows₀ w c p a b k₀ rows k = (k ≤ w) × (length rows ≡ length ro
 
 abbrev μ-loop : tie.MeasureT-loop
 μ-loop rows₀ w c p a b k₀ rows k = w - k
-
-returns : tie.Need-returns Inv-loop μ-loop
-returns c = rw (c .if1 .taken) swapped-self
-
-loop-holds : tie.Need-loop-holds Inv-loop μ-loop
-loop-holds c = (omega arith, refl, swapped-none)
 
 loop-again : tie.Need-loop-again Inv-loop μ-loop
 loop-again c =
@@ -40,10 +37,10 @@ swap-rows-spec =
     (tie.spec
     Inv-loop
     μ-loop
-    returns
+    (λ c. rw (c .if1 .taken) swapped-self)
     (λ c. omega arith)
     (λ c. omega arith)
-    loop-holds
+    (λ c. (omega arith, refl, swapped-none))
     (λ c. omega arith)
     (λ c. omega arith)
     (λ c. omega arith)

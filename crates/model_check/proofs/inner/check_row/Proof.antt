@@ -1,43 +1,46 @@
+-- `model_check::inner::check_row` meets its contract: row i and the row of its mirror state are read and judged. A row that is not fine is refused with 13 at i
+-- (`row-refused`), else nothing is (`row-passed`). No loop. The mirror's row lies in the table since the mirror of a state is a state (`mirror-below`).
 use native.Mathlib.Omega.{arith}
 use borrow.Author.Needs.{needs}
-use borrow.Author.Tests.{not-true, not-false}
 use Rattle.quotes.proofs.States.{mirror-below}
 use Rattle.model_check.proofs.Answers.{row-refused, row-passed}
 use Rattle.model_check.proofs.inner.check_row.Statement.{statement}
 use Rattle.model_check.proofs.inner.check_row.Tie as tie
 
-mirror-of-requires : tie.Need-mirror-of-requires
-mirror-of-requires c κs = search needs
-
-read-row-requires : tie.Need-read-row-requires
-read-row-requires c κs = search needs
-
 read-row-requires-2 : tie.Need-read-row-requires-2
 read-row-requires-2 c κs =
-    let a = c .before .before .before .args in
-    let p = c .before .before .before .pre in
-    omega (arith, c .before .mirror-of .ensures, mirror-below (a .config .«imbalance_buckets») (a .i) (omega (arith, p .0 .n-least)) (a .config .«spread_states») (p .2))
-
-row-fine-requires : tie.Need-row-fine-requires
-row-fine-requires c κs = search needs
+    let at-start : tie.Start = search in
+    let a = at-start .args in
+    let p = at-start .pre in
+    omega (
+      arith,
+      c .before .mirror-of .ensures,
+      mirror-below (a .config .«imbalance_buckets») (a .i) (omega (arith, p .0 .n-least)) (a .config .«spread_states») (p .2),
+    )
 
 returns : tie.Need-returns
 returns c =
-    let a = c .before .before .before .before .before .before .args in
-    row-refused (a .config) (a .table .now) _ _ _ _ _ (c .before .before .before .before .mirror-of .ensures) (c .before .before .before .read-row .ensures) (c .before .before .read-row2 .ensures) (c .before .row-fine .ensures) (not-true _ (c .if1 .taken))
+    let at-mirror-of : tie.After-mirror-of = search in
+    let at-start : tie.Start = search in
+    let a = at-start .args in
+    row-refused (a .config) (a .table .now) (a .i) (at-mirror-of .mirror-of .ensures) (c .before .before .before .read-row .ensures)
+    (c .before .before .read-row2 .ensures) (c .before .row-fine .ensures) (c .if1 .taken)
 
 returns-2 : tie.Need-returns-2
 returns-2 c =
-    let a = c .before .before .before .before .before .before .args in
-    row-passed (a .config) (a .table .now) _ _ _ _ _ (c .before .before .before .before .mirror-of .ensures) (c .before .before .before .read-row .ensures) (c .before .before .read-row2 .ensures) (c .before .row-fine .ensures) (not-false _ (c .if1 .left))
+    let at-mirror-of : tie.After-mirror-of = search in
+    let at-start : tie.Start = search in
+    let a = at-start .args in
+    row-passed (a .config) (a .table .now) (a .i) (at-mirror-of .mirror-of .ensures) (c .before .before .before .read-row .ensures)
+    (c .before .before .read-row2 .ensures) (c .before .row-fine .ensures) (c .if1 .left)
 
 pub check-row-spec : {M : Type 1} → statement M
 check-row-spec =
     tie.close
     (tie.spec
-    mirror-of-requires
-    read-row-requires
+    (λ c κs. search needs)
+    (λ c κs. search needs)
     read-row-requires-2
-    row-fine-requires
+    (λ c κs. search needs)
     returns
     returns-2)

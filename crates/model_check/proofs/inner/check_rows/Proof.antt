@@ -1,3 +1,6 @@
+-- `model_check::inner::check_rows` meets its contract: the first bad row is refused. Invariant of the loop: the first refusal of all rows is that of the rows
+-- from i on. Measure: n less i. A row that is refused is the answer (`first-stop`), a fine one is passed (`first-step`), and at the end nothing is refused
+-- (`first-end`).
 use Prim.Native.Nat.{_-_}
 use mathlib.Core.Path.{_≡_, ap, _∙_, sym}
 use native.Mathlib.Omega.{arith}
@@ -27,29 +30,29 @@ check-row-requires c κs =
     let p = c .before .before .before .pre in
     (p .0, p .1, omega (arith, p .2))
 
-enum-told : tie.Need-enum-told Inv-loop μ-loop
-enum-told c = search needs
-
-enum-told-2 : tie.Need-enum-told-2 Inv-loop μ-loop
-enum-told-2 c = search needs
-
 returns : tie.Need-returns Inv-loop μ-loop
 returns c =
-    let l = c .before .before .before .before .loop in
+    let at-loop : tie.At-loop Inv-loop μ-loop = search in
+    let at-start : tie.Start Inv-loop μ-loop = search in
+    let l = at-loop .loop in
     let k = c .before .before .check-row in
-    sym (l .inv ∙ first-stop _ (l .i) (c .before .before .before .before .before .before .args .n) (k .result) (c .enum-told2 .given .0 .0) (c .before .before .before .loop-test .taken) (k .ensures) (c .enum-told2 .given .1))
-
-add-i : tie.Need-add-i Inv-loop μ-loop
-add-i c = omega arith
+    sym (l .inv
+    ∙ first-stop _ (l .i) (at-start .args .n) (k .result) (c .enum-told2 .given .0 .0) (c .before .before .before .loop-test .taken) (k .ensures)
+    (c .enum-told2 .given .1))
 
 loop-less : tie.Need-loop-less Inv-loop μ-loop
-loop-less c = falls (c .before .before .before .before .before .before .args .n) (c .before .before .before .before .loop .i) (c .before .before .before .loop-test .taken)
+loop-less c =
+    let at-loop : tie.At-loop Inv-loop μ-loop = search in
+    let at-start : tie.Start Inv-loop μ-loop = search in
+    falls (at-start .args .n) (at-loop .loop .i) (c .before .before .before .loop-test .taken)
 
 loop-again : tie.Need-loop-again Inv-loop μ-loop
 loop-again c =
-    let l = c .before .before .before .before .loop in
+    let at-loop : tie.At-loop Inv-loop μ-loop = search in
+    let at-start : tie.Start Inv-loop μ-loop = search in
+    let l = at-loop .loop in
     let k = c .before .before .check-row in
-    l .inv ∙ first-step _ (l .i) (c .before .before .before .before .before .before .args .n) (k .result) (c .before .before .before .loop-test .taken) (k .ensures) (c .enum-told .given .1)
+    l .inv ∙ first-step _ (l .i) (at-start .args .n) (k .result) (c .before .before .before .loop-test .taken) (k .ensures) (c .enum-told .given .1)
 
 returns-2 : tie.Need-returns-2 Inv-loop μ-loop
 returns-2 c = sym (c .before .loop .inv ∙ first-end _ (c .before .loop .i) (c .before .before .before .args .n) (c .loop-test .left))
@@ -62,10 +65,10 @@ check-rows-spec =
     μ-loop
     loop-holds
     check-row-requires
-    enum-told
-    enum-told-2
+    (λ c. search needs)
+    (λ c. search needs)
     returns
-    add-i
+    (λ c. omega arith)
     loop-less
     loop-again
     returns-2)

@@ -1,16 +1,9 @@
+-- `model_check::inner::no_minus_zero` meets its contract: each of the three tests is `minusZero` of its float, so the conjunction of their negations is the
+-- definition's.
 use mathlib.Core.Bool.{not, _&&_}
 use borrow.Author.Needs.{needs}
 use Rattle.model_check.proofs.inner.no_minus_zero.Statement.{statement}
 use Rattle.model_check.proofs.inner.no_minus_zero.Tie as tie
-
-is-minus-zero-requires : tie.Need-is-minus-zero-requires
-is-minus-zero-requires c κs = search needs
-
-is-minus-zero-requires-2 : tie.Need-is-minus-zero-requires-2
-is-minus-zero-requires-2 c κs = search needs
-
-is-minus-zero-requires-3 : tie.Need-is-minus-zero-requires-3
-is-minus-zero-requires-3 c κs = search needs
 
 returns : tie.Need-returns
 returns c =
@@ -22,4 +15,4 @@ returns c =
 pub no-minus-zero-spec : {M : Type 1} → statement M
 no-minus-zero-spec =
     tie.close
-    (tie.spec is-minus-zero-requires is-minus-zero-requires-2 is-minus-zero-requires-3 returns)
+    (tie.spec (λ c κs. search needs) (λ c κs. search needs) (λ c κs. search needs) returns)

@@ -1,34 +1,21 @@
+-- `model_check::inner::row_fine` meets its contract: each leaf answers the rules that its contract names, the status is tested in place, and the conjunction of
+-- the seven is the definition's `rowFine`, part by part. No loop; the leaves ask no more than this function does.
 use mathlib.Core.Bool.{_&&_}
 use borrow.Author.Needs.{needs}
 use Rattle.model_check.specs.Check.{statusKnown, rowFine}
 use Rattle.model_check.proofs.inner.row_fine.Statement.{statement}
 use Rattle.model_check.proofs.inner.row_fine.Tie as tie
 
-is-placed-requires : tie.Need-is-placed-requires
-is-placed-requires c κs = search needs
-
-floats-finite-requires : tie.Need-floats-finite-requires
-floats-finite-requires c κs = search needs
-
-no-minus-zero-requires : tie.Need-no-minus-zero-requires
-no-minus-zero-requires c κs = search needs
-
-state-values-are-consistent-requires : tie.Need-state-values-are-consistent-requires
-state-values-are-consistent-requires c κs = search needs
-
-is-on-its-side-requires : tie.Need-is-on-its-side-requires
-is-on-its-side-requires c κs = search needs
-
-state-mirrors-requires : tie.Need-state-mirrors-requires
-state-mirrors-requires c κs = search needs
-
 returns : tie.Need-returns
 unfolding rowFine
 returns c =
+    let at-floats-finite : tie.After-floats-finite = search in
+    let at-is-placed : tie.After-is-placed = search in
+    let at-start : tie.Start = search in
     λ t.
-    c .before .before .before .before .before .before .is-placed .ensures t
-    && statusKnown (c .before .before .before .before .before .before .before .args .e)
-    && c .before .before .before .before .floats-finite .ensures t
+    at-is-placed .is-placed .ensures t
+    && statusKnown (at-start .args .e)
+    && at-floats-finite .floats-finite .ensures t
     && c .before .before .before .no-minus-zero .ensures t
     && c .before .before .state-values-are-consistent .ensures t
     && c .before .is-on-its-side .ensures t
@@ -38,10 +25,10 @@ pub row-fine-spec : {M : Type 1} → statement M
 row-fine-spec =
     tie.close
     (tie.spec
-    is-placed-requires
-    floats-finite-requires
-    no-minus-zero-requires
-    state-values-are-consistent-requires
-    is-on-its-side-requires
-    state-mirrors-requires
+    (λ c κs. search needs)
+    (λ c κs. search needs)
+    (λ c κs. search needs)
+    (λ c κs. search needs)
+    (λ c κs. search needs)
+    (λ c κs. search needs)
     returns)

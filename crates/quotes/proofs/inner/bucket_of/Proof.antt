@@ -1,3 +1,5 @@
+-- `quotes::inner::bucket_of` meets its contract: the smaller size is the lighter one. Where that is the bid, the bucket is the lower one; else it is counted
+-- from the other end, which does not pass below 0 because the lower bucket is at most n less 1 (`lower-le`). No loop.
 use mathlib.Core.Path.{_≡_}
 use native.Mathlib.Omega.{arith}
 use borrow.Author.Tests.{le-leb, lt-leb}

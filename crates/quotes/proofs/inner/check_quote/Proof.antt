@@ -1,3 +1,5 @@
+-- `quotes::inner::check_quote` meets its contract: 2, 3 and 4 are judged in the definition's order, each by one call, so each of the four ways out is the
+-- definition with the tests before it false and its own decided. No loop.
 use borrow.Author.Needs.{needs}
 use Rattle.quotes.proofs.inner.check_quote.Statement.{statement}
 use Rattle.quotes.proofs.inner.check_quote.Tie as tie

@@ -1,3 +1,5 @@
+-- `quotes::inner::half_ticks` meets its contract: the bid in ticks and the ask in ticks, added as the definition has it. The sum fits a word: an accepted
+-- quote's is at most 2 × 10^9 (`half-ticks-most`).
 use native.Mathlib.Omega.{arith}
 use Rattle.quotes.proofs.Ticks.{half-ticks-most}
 use borrow.Author.Needs.{needs}

@@ -1,3 +1,4 @@
+-- `quotes::inner::is_off_tick` meets its contract: `on_grid` of the bid and of the ask, joined as the definition joins them.
 use borrow.Author.Needs.{needs}
 use Rattle.quotes.proofs.inner.is_off_tick.Statement.{statement}
 use Rattle.quotes.proofs.inner.is_off_tick.Tie as tie

@@ -1,3 +1,5 @@
+-- `quotes::inner::lower_bucket` meets its contract: the definition searches for the bucket, the code divides once, and the two agree for sizes with the lighter
+-- one first (`by-division`). With 1 in the place of 0 the number divided, one less, is the same. The product fits a word: 10^9 times 256 (`fits-mul`).
 use Prim.Native.Nat.{ℕ, _-_, _+_, _*_, _/_}
 use mathlib.Core.Path.{_≡_, sym, ap, _∙_}
 use native.Mathlib.Omega.{arith}

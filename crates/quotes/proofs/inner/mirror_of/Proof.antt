@@ -1,3 +1,5 @@
+-- `quotes::inner::mirror_of` meets its contract: the state less its bucket plus the mirrored bucket, which is the definition's mirror (`mirror-by-remainder`).
+-- The bucket is a remainder by n, so it is at most the state and at most n less 1.
 use native.Mathlib.Omega.{arith}
 use native.Mathlib.Nat.{mod-le, mod-lt}
 use Rattle.quotes.proofs.States.{mirror-by-remainder}

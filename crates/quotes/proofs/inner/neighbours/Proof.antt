@@ -1,3 +1,5 @@
+-- `quotes::inner::neighbours` meets its contract: the gap is judged first, and `pair_of` says the rest, as the definition has it. The later time less the
+-- earlier one does not pass below 0, by the `requires`.
 use borrow.Author.Tests.{lt-ltb, le-ltb}
 use borrow.Author.Needs.{needs}
 use Rattle.quotes.proofs.inner.neighbours.Statement.{statement}

@@ -1,3 +1,5 @@
+-- `quotes::inner::pair_of` meets its contract: a skip where the first quote has no state, a skip where the second has none, else the pair with both mid prices;
+-- these are the cases of `paired` at the places that `place_of` answers. No loop.
 use borrow.Author.Needs.{needs}
 use Rattle.quotes.proofs.inner.pair_of.Statement.{statement}
 use Rattle.quotes.proofs.inner.pair_of.Tie as tie

@@ -1,4 +1,7 @@
-use Prim.Native.Nat.{_-_, _<_}
+-- `quotes::inner::place_of` meets its contract: no state where the spread is over the spread states; else the state is the spread's first one plus the bucket,
+-- and its mirror the same first one plus n less 1 less the bucket, which is what the definition's quotient and remainder give (`mirror-row`). The bucket is
+-- below n (`bucket-le`) and the spread is 1 or more (`spread-least`), so nothing passes below 0; both factors are at most 256 (`fits-mul`). No loop.
+use Prim.Native.Nat.{_-_, _*_, _≤_, _<_}
 use native.Mathlib.Omega.{arith}
 use native.Mathlib.Nat.{mul-le-mul}
 use borrow.Author.Tests.{lt-ltb, le-ltb}
@@ -21,40 +24,30 @@ sub-first c =
 mul-first : tie.Need-mul-first
 mul-first c = fits-mul 256 256 (omega arith) (omega arith) tt
 
-add-t9 : tie.Need-add-t9
-add-t9 c =
-    let at-start : tie.Start = search in
-    let a = at-start .args in
-    let m = mul-le-mul {n₁ = c .before .before .before .spread-of .result - 1} {m₁ = a .c .«imbalance_buckets»} {n₂ = 256} {m₂ = 256} (omega arith)
-    (omega arith) in
-    omega (arith, c .bucket-of .ensures, bucket-le (a .q .«bid_size») (a .q .«ask_size») (a .c .«imbalance_buckets»))
-
-sub-t12 : tie.Need-sub-t12
-sub-t12 c =
+-- the bucket is one of the n
+below : (c : tie.After-bucket-of) → let at-start : tie.Start = search in c .bucket-of .result < at-start .args .c .«imbalance_buckets»
+below c =
     let at-start : tie.Start = search in
     let a = at-start .args in
     omega (arith, c .bucket-of .ensures, bucket-le (a .q .«bid_size») (a .q .«ask_size») (a .c .«imbalance_buckets»))
 
-add-t13 : tie.Need-add-t13
-add-t13 c =
+-- the first state of the spread is a product of small numbers
+small : (c : tie.After-bucket-of) → let at-start : tie.Start = search in
+    (c .before .before .before .spread-of .result - 1) * at-start .args .c .«imbalance_buckets» ≤ 256 * 256
+small c =
     let at-start : tie.Start = search in
-    let a = at-start .args in
-    let m = mul-le-mul {n₁ = c .before .before .before .spread-of .result - 1} {m₁ = a .c .«imbalance_buckets»} {n₂ = 256} {m₂ = 256} (omega arith)
-    (omega arith) in
-    omega arith
+    mul-le-mul {n₁ = c .before .before .before .spread-of .result - 1} {m₁ = at-start .args .c .«imbalance_buckets»} {n₂ = 256} {m₂ = 256} (omega arith)
+    (omega arith)
 
 returns-2 : tie.Need-returns-2
 returns-2 c =
     let at-spread-of : tie.After-spread-of = search in
     let at-start : tie.Start = search in
-    let a = at-start .args in
-    let n = a .c .«imbalance_buckets» in
-    let l : c .bucket-of .result < n = omega (arith, c .bucket-of .ensures, bucket-le (a .q .«bid_size») (a .q .«ask_size») n) in
     rw (
       ← at-spread-of .spread-of .ensures,
       ← c .bucket-of .ensures,
       le-ltb _ _ (c .before .if1 .left),
-      mirror-row n (at-spread-of .spread-of .result - 1) (c .bucket-of .result) l,
+      mirror-row (at-start .args .c .«imbalance_buckets») (at-spread-of .spread-of .result - 1) (c .bucket-of .result) (below c),
     )
 
 pub place-of-spec : {M : Type 1} → statement M
@@ -66,8 +59,8 @@ place-of-spec =
     (λ c κs. search needs)
     sub-first
     mul-first
-    add-t9
+    (λ c. omega (arith, below c, small c))
     (λ c. search needs)
-    sub-t12
-    add-t13
+    (λ c. omega (arith, below c))
+    (λ c. omega (arith, small c))
     returns-2)

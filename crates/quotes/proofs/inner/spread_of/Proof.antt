@@ -1,3 +1,5 @@
+-- `quotes::inner::spread_of` meets its contract: the ask in ticks less the bid in ticks, as the definition has it. The difference does not pass below 0, since
+-- an accepted quote has its bid below its ask on the grid (`ticks-less`).
 use native.Mathlib.Omega.{arith}
 use Rattle.quotes.proofs.Ticks.{ticks-less}
 use borrow.Author.Needs.{needs}

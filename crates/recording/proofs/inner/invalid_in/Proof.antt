@@ -1,3 +1,5 @@
+-- `recording::inner::invalid_in` meets its contract: nothing refused counts 0; a refusal counts the test for 3 and 4 as a number, which is its bit
+-- (`byte-bit`).
 use mathlib.Core.Bool.{_||_}
 use lib.Dec.{eqb}
 use borrow.Author.Needs.{needs}

@@ -1,3 +1,6 @@
+-- `recording::inner::is_sorted` meets its contract. The invariant of its loop: the recording is sorted exactly if the quotes from i on are, the first of them
+-- not before the time `last`. The measure is n less i. A time not below `last` takes the invariant on (`sorted-step`). The ways out: a time below `last`
+-- (`sorted-stop`), and the quotes are used up (`sorted-end`).
 use Prim.Native.Nat.{_-_}
 use mathlib.Core.Path.{_≡_, refl, sym, _∙_}
 use native.Mathlib.Omega.{arith}

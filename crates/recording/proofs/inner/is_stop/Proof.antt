@@ -1,3 +1,4 @@
+-- `recording::inner::is_stop` meets its contract: nothing refused does not stop; a refusal stops unless its number, which `number_of` answers, is 3 or 4.
 use borrow.Author.Needs.{needs}
 use Rattle.recording.proofs.inner.is_stop.Statement.{statement}
 use Rattle.recording.proofs.inner.is_stop.Tie as tie

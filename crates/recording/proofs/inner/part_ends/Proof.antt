@@ -1,3 +1,4 @@
+-- `recording::inner::part_ends` meets its contract: a part gives its own ends and a refusal the ends 0 and 0, one case of the definition in each arm.
 use borrow.Author.Needs.{needs}
 use Rattle.recording.proofs.inner.part_ends.Statement.{statement}
 use Rattle.recording.proofs.inner.part_ends.Tie as tie

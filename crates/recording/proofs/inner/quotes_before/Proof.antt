@@ -1,3 +1,6 @@
+-- `recording::inner::quotes_before` meets its contract, by halving. The invariant of its loop: the number of quotes before the time is from `low` to `high`,
+-- and `high` is at most the number of quotes. The measure is `high` less `low`. In a sorted recording the middle quote decides: if it is before the time, so
+-- are all up to it (`before-past`); if not, none from it on is (`before-most`). The loop ends where `low` and `high` meet.
 use Prim.Native.Nat.{_+_, _/_, _-_, _≤_}
 use native.Mathlib.Omega.{arith}
 use lib.ListN.{length}

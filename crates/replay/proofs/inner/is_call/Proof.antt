@@ -1,3 +1,6 @@
+-- `replay::inner::is_call` meets its contract: call k is a quote, or a save or restore whose bytes lie in the room. Four ways out, a law for each: a quote
+-- (`call-quote`), a kind over 2 (`call-none`), bytes that begin past the room (`call-far`), else the last test, length ≤ room − start, which is the
+-- definition's start + length ≤ room (`call-part`). No loop; the three reads lie in the list, and nothing wraps, by the `requires`.
 use Rattle.replay.proofs.Coding.{call-quote, call-none, call-far, call-part}
 use borrow.Author.Needs.{needs}
 use Rattle.replay.proofs.inner.is_call.Statement.{statement}

@@ -1,13 +1,14 @@
+-- `replay::inner::is_well_coded` meets its contract: six words for each answer, each six a call. Words that are no multiple of six (`coded-ragged`) or of
+-- another number of calls (`coded-count`) are badly coded. Invariant of the loop: the list has six words for each answer, and all calls are good exactly if
+-- those from k on are (`coded-step`). Measure: the answers less k. A bad call ends it with false (`coded-stop`), the end of the list with true (`coded-end`).
 use Prim.Native.Nat.{_*_, _-_}
-use mathlib.Core.Path.{_≡_, sym, ap, _∙_}
-use mathlib.Core.Bool.{true, false}
+use mathlib.Core.Path.{_≡_, ap}
 use native.Mathlib.Omega.{arith}
 use lib.ListN.{length}
-use borrow.Author.Tests.{not-true, not-false}
 use Rattle.basics.specs.Lists.{allFrom}
-use Rattle.mirrored.proofs.Walks.{whole, all-step, all-stop, all-end}
+use Rattle.mirrored.proofs.Walks.{whole}
 use Rattle.replay.specs.Replay.{isCall}
-use Rattle.replay.proofs.Coding.{coded-ragged, coded-count, coded-length, coded-calls}
+use Rattle.replay.proofs.Coding.{coded-ragged, coded-count, coded-length, coded-stop, coded-step, coded-end}
 use Rattle.replay.proofs.inner.is_well_coded.Statement.{statement}
 use Rattle.replay.proofs.inner.is_well_coded.Tie as tie
 
@@ -41,8 +42,8 @@ returns-3 c =
     let at-start : tie.Start Inv-loop μ-loop = search in
     let a = at-start .args in
     let l = c .before .before .before .loop in
-    coded-calls (a .room) (a .answers) (a .calls .now) (l .inv .0) false
-    (sym (l .inv .1 ∙ all-stop _ (l .k) (a .answers) (c .before .before .loop-test .taken) (sym (c .before .is-call .ensures) ∙ not-true _ (c .if3 .taken))))
+    coded-stop (a .room) (a .answers) (a .calls .now) (l .inv .0) (l .k) (l .inv .1)
+    (c .before .before .loop-test .taken) (c .before .is-call .ensures) (c .if3 .taken)
 
 loop-again : tie.Need-loop-again Inv-loop μ-loop
 loop-again c =
@@ -50,7 +51,8 @@ loop-again c =
     let a = at-start .args in
     let l = c .before .before .before .loop in (
       l .inv .0,
-      l .inv .1 ∙ all-step _ (l .k) (a .answers) (c .before .before .loop-test .taken) (sym (c .before .is-call .ensures) ∙ not-false _ (c .if3 .left)),
+      coded-step (a .room) (a .answers) (a .calls .now) (l .inv .0) (l .k) (l .inv .1)
+          (c .before .before .loop-test .taken) (c .before .is-call .ensures) (c .if3 .left),
     )
 
 returns-4 : tie.Need-returns-4 Inv-loop μ-loop
@@ -58,7 +60,7 @@ returns-4 c =
     let at-start : tie.Start Inv-loop μ-loop = search in
     let a = at-start .args in
     let l = c .before .loop in
-    coded-calls (a .room) (a .answers) (a .calls .now) (l .inv .0) true (sym (l .inv .1 ∙ all-end _ (l .k) (a .answers) (c .loop-test .left)))
+    coded-end (a .room) (a .answers) (a .calls .now) (l .inv .0) (l .k) (l .inv .1) (c .loop-test .left)
 
 pub is-well-coded-spec : {M : Type 1} → statement M
 is-well-coded-spec =

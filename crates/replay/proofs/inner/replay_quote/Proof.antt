@@ -1,4 +1,6 @@
-use Rattle.calibrator.specs.Record.{memory, ended}
+-- `replay::inner::replay_quote` meets its contract: the calibrator observes the quote, and the answer's number is returned with the record that is left. What
+-- `observe` ensures and the number of its answer are all that `quote-ends` asks. No loop; the callees require nothing.
+use Rattle.calibrator.specs.Record.{memory}
 use Rattle.replay.proofs.Steps.{quote-ends}
 use borrow.Author.Needs.{needs}
 use Rattle.replay.proofs.inner.replay_quote.Statement.{statement}
@@ -9,10 +11,8 @@ returns c =
     let at-observe : tie.After-observe = search in
     let at-start : tie.Start = search in
     let a = at-start .args in
-    let o = at-observe .observe in
     quote-ends (a .config) (memory (a .rec) (a .stay .now) (a .moved .now) (a .move-half-ticks .now)) (a .next)
-    (ended (o .result .answer) (o .result .next) (o .last .1 .0) (o .last .1 .1 .0) (o .last .1 .1 .1 .0))
-    (c .check-number .result) (o .ensures) (c .check-number .ensures)
+    (at-observe .observe .ensures) (c .check-number .ensures)
 
 pub replay-quote-spec : {M : Type 1} → statement M
 replay-quote-spec =

@@ -1,3 +1,5 @@
+-- `replay::inner::restored_number` meets its contract: by cases on the answer. A configuration is 0 or 101 as `same_config` says, which is the test of the
+-- definition; a refusal is its number. No loop; the callees require nothing.
 use borrow.Author.Needs.{needs}
 use Rattle.replay.proofs.inner.restored_number.Statement.{statement}
 use Rattle.replay.proofs.inner.restored_number.Tie as tie

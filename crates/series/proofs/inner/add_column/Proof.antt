@@ -1,55 +1,34 @@
+-- `series::inner::add_column` meets its contract: n places from `to` on become column c plus the n places from v on. Invariant: the first k hold their sums,
+-- all else is as it was (`Filling`). Measure: n − k. Both floats that are read are those of the entry: no place of the column is written before it is read
+-- (`unwritten`), and v lies behind the part that is written. So their sum is the next of the part (`filling-more`).
 use native.Mathlib.Omega.{arith}
-use Prim.Native.Nat.{_≤_, _-_, _*_, _+_}
-use mathlib.Core.Path.{_≡_, refl}
-use mathlib.Core.Logic.{inr}
-use lib.ListN.{length, length-set}
+use Prim.Native.Nat.{_-_, _*_, _+_, _<_}
+use lib.ListN.{length}
 use lib.Ieee.{binary64, add}
 use Rattle.linear.specs.Flat.{from, rowsOf}
-use Rattle.linear.specs.Loops.{Filled}
-use Rattle.linear.proofs.Parts.{filled-none, filled-more}
+use Rattle.linear.proofs.Parts.{Filling, filling-none, filling-ahead, filling-more, filling-all}
 use Rattle.series.proofs.inner.add_column.Statement.{statement}
 use Rattle.series.proofs.inner.add_column.Tie as tie
 
 abbrev Inv-loop : tie.InvT-loop
-Inv-loop s₀ n w c v to k₀ s k = (k ≤ n) × (length s ≡ length s₀) × Filled to k (λ k. add binary64 (rowsOf w s₀ k c) (from v s₀ k)) s₀ s
+Inv-loop s₀ n w c v to k₀ s k = Filling to n (λ k. add binary64 (rowsOf w s₀ k c) (from v s₀ k)) s₀ k s
 
 abbrev μ-loop : tie.MeasureT-loop
 μ-loop s₀ n w c v to k₀ s k = n - k
 
-loop-holds : tie.Need-loop-holds Inv-loop μ-loop
-loop-holds c = (omega arith, refl, filled-none)
-
-mul-s : tie.Need-mul-s Inv-loop μ-loop
-mul-s c = omega (arith, c .before .before .pre .0 .inside (c .before .loop .k) (omega arith))
-
-add-s : tie.Need-add-s Inv-loop μ-loop
-add-s c = omega (arith, c .before .before .pre .0 .inside (c .before .loop .k) (omega arith))
-
-mul-s-2 : tie.Need-mul-s-2 Inv-loop μ-loop
-mul-s-2 c = omega (arith, c .before .before .pre .0 .inside (c .before .loop .k) (omega arith))
-
-slice-read-s : tie.Need-slice-read-s Inv-loop μ-loop
-slice-read-s c = omega (arith, c .before .before .before .pre .0 .inside (c .before .before .loop .k) (omega arith))
+-- the place of the column that is read lies in the list
+read-inside : (c : tie.In-loop Inv-loop μ-loop) → let a = c .before .before .args in c .before .loop .k * a .w + a .c < length (a .s .now)
+read-inside c = c .before .before .pre .0 .inside (c .before .loop .k) (omega arith)
 
 loop-again : tie.Need-loop-again Inv-loop μ-loop
 loop-again c =
     let at-loop : tie.At-loop Inv-loop μ-loop = search in
     let at-start : tie.Start Inv-loop μ-loop = search in
-    let f = at-loop .loop .inv .2 in
-    let k = at-loop .loop .k in (
-      omega arith,
-      simp length-set (omega arith),
-      filled-more f _ (omega (arith, at-start .pre .0 .room))
-          (rw (
-            f .elsewhere (k * at-start .args .w + at-start .args .c) (at-start .pre .0 .unwritten k (omega arith)),
-            f .elsewhere (at-start .args .v + k) (inr (omega arith)),
-          )),
-    )
-
-returns : tie.Need-returns Inv-loop μ-loop
-returns c =
-    let done : c .before .loop .k ≡ c .before .before .args .n = omega arith in
-    rw done at (c .before .loop .inv .2)
+    let a = at-start .args in
+    let k = at-loop .loop .k in
+    let f = at-loop .loop .inv in
+    filling-more f _ (omega arith) (at-start .pre .0 .room)
+    (rw (f .part .elsewhere (k * a .w + a .c) (at-start .pre .0 .unwritten k (omega arith)), filling-ahead f (a .v + k) (omega arith)))
 
 pub add-column-spec : {M : Type 1} → statement M
 add-column-spec =
@@ -57,11 +36,11 @@ add-column-spec =
     (tie.spec
     Inv-loop
     μ-loop
-    loop-holds
-    mul-s
-    add-s
-    mul-s-2
-    slice-read-s
+    (λ c. filling-none)
+    (λ c. omega (arith, read-inside c))
+    (λ c. omega (arith, read-inside c))
+    (λ c. omega (arith, read-inside c))
+    (λ c. omega (arith, read-inside (c .before)))
     (λ c. omega arith)
     (λ c. omega arith)
     (λ c. omega arith)
@@ -72,4 +51,4 @@ add-column-spec =
     (λ c. omega arith)
     loop-again
     (λ c. omega arith)
-    returns)
+    (λ c. filling-all (c .before .loop .inv) (omega arith)))

@@ -1,3 +1,6 @@
+-- `series::inner::add_shares` meets its contract: rounds of the share, from F. Invariant: share is what `done` rounds make, next is the last product where a
+-- round was made, all else is as it was (`Shared`). Measure: rounds − done. The rows keep B and F, so one call more is one round more (`shares-more`); at the
+-- start share holds F, as the contract requires (`shares-none`). At the end done is rounds.
 use native.Mathlib.Omega.{arith}
 use Prim.Native.Nat.{_≤_, _-_}
 use mathlib.Core.Path.{_≡_, refl}
@@ -18,14 +21,10 @@ Inv-loop s₀ n rounds done₀ s done =
 abbrev μ-loop : tie.MeasureT-loop
 μ-loop s₀ n rounds done₀ s done = rounds - done
 
-loop-holds : tie.Need-loop-holds Inv-loop μ-loop
-loop-holds c = (omega arith, refl, shares-none _ _ (c .before .pre .1))
-
 loop-again : tie.Need-loop-again Inv-loop μ-loop
 loop-again c =
     let at-loop : tie.At-loop Inv-loop μ-loop = search in
-    let at-start : tie.Start Inv-loop μ-loop = search in
-    (omega arith, omega arith, shares-more (at-start .args .n) (at-loop .loop .done) _ _ _ (at-loop .loop .inv .2) (c .before .before .next-share .ensures))
+    (omega arith, omega arith, shares-more (at-loop .loop .inv .2) (c .before .before .next-share .ensures))
 
 returns : tie.Need-returns Inv-loop μ-loop
 returns c =
@@ -38,7 +37,7 @@ add-shares-spec =
     (tie.spec
     Inv-loop
     μ-loop
-    loop-holds
+    (λ c. (omega arith, refl, shares-none (c .before .pre .1)))
     (λ c κs. omega arith)
     (λ c. omega arith)
     (λ c. omega arith)

@@ -1,38 +1,28 @@
+-- `series::inner::clamp_part` meets its contract: n places from v on are clamped. Invariant: the first k are clamped, all else is as it was (`Filling`).
+-- Measure: n − k. The float that is clamped is not written yet (`filling-ahead`), so the clamped float is the next of the part (`filling-more`).
 use borrow.Author.Needs.{needs}
 use native.Mathlib.Omega.{arith}
-use Prim.Native.Nat.{_≤_, _-_, _+_}
-use mathlib.Core.Path.{_≡_, refl, ap, _∙_}
-use lib.ListN.{length, length-set}
+use Prim.Native.Nat.{_-_, _+_}
+use mathlib.Core.Path.{ap, _∙_}
 use Rattle.floats.specs.Floats.{clamp}
 use Rattle.linear.specs.Flat.{from}
-use Rattle.linear.specs.Loops.{Filled}
-use Rattle.linear.proofs.Parts.{filled-none, filled-ahead, filled-more}
+use Rattle.linear.proofs.Parts.{Filling, filling-none, filling-ahead, filling-more, filling-all}
 use Rattle.series.proofs.inner.clamp_part.Statement.{statement}
 use Rattle.series.proofs.inner.clamp_part.Tie as tie
 
 abbrev Inv-loop : tie.InvT-loop
-Inv-loop s₀ n v k₀ s k = (k ≤ n) × (length s ≡ length s₀) × Filled v k (λ k. clamp (from v s₀ k)) s₀ s
+Inv-loop s₀ n v k₀ s k = Filling v n (λ k. clamp (from v s₀ k)) s₀ k s
 
 abbrev μ-loop : tie.MeasureT-loop
 μ-loop s₀ n v k₀ s k = n - k
-
-loop-holds : tie.Need-loop-holds Inv-loop μ-loop
-loop-holds c = (omega arith, refl, filled-none)
 
 loop-again : tie.Need-loop-again Inv-loop μ-loop
 loop-again c =
     let at-loop : tie.At-loop Inv-loop μ-loop = search in
     let at-start : tie.Start Inv-loop μ-loop = search in
-    let f = at-loop .loop .inv .2 in (
-      omega arith,
-      simp length-set (omega arith),
-      filled-more f _ (omega arith) (c .clamp .ensures ∙ ap clamp (filled-ahead f (at-start .args .v + at-loop .loop .k) (omega arith))),
-    )
-
-returns : tie.Need-returns Inv-loop μ-loop
-returns c =
-    let done : c .before .loop .k ≡ c .before .before .before .args .n = omega arith in
-    rw done at (c .before .loop .inv .2)
+    let f = at-loop .loop .inv in
+    filling-more f _ (omega arith) (omega arith)
+    (c .clamp .ensures ∙ ap clamp (filling-ahead f (at-start .args .v + at-loop .loop .k) (omega arith)))
 
 pub clamp-part-spec : {M : Type 1} → statement M
 clamp-part-spec =
@@ -40,7 +30,7 @@ clamp-part-spec =
     (tie.spec
     Inv-loop
     μ-loop
-    loop-holds
+    (λ c. filling-none)
     (λ c. omega arith)
     (λ c. omega arith)
     (λ c. omega arith)
@@ -52,4 +42,4 @@ clamp-part-spec =
     (λ c. omega arith)
     loop-again
     (λ c. omega arith)
-    returns)
+    (λ c. filling-all (c .before .loop .inv) (omega arith)))

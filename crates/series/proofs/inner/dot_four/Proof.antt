@@ -1,3 +1,5 @@
+-- `series::inner::dot_four` meets its contract: four dot products with one vector, each left to right. Invariant: each of a, b, c, d is the dot product of the
+-- first k floats of its row with the first k of the vector. Measure: n − k. A round is one step of each definition. At the end k is n.
 use native.Mathlib.Omega.{arith}
 use Prim.Native.Nat.{_≤_, _-_}
 use mathlib.Core.Path.{_≡_, refl}

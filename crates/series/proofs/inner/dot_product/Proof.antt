@@ -1,3 +1,5 @@
+-- `series::inner::dot_product` meets its contract: a dot product, left to right. Invariant: `sum` is the dot product of the first k floats. Measure: n − k. A
+-- round adds one product, which is the definition's step; the start is minus zero, as the definition's. At the end k is n.
 use native.Mathlib.Omega.{arith}
 use Prim.Native.Nat.{_≤_, _-_}
 use mathlib.Core.Path.{_≡_, refl}

@@ -1,3 +1,5 @@
+-- `series::inner::largest_of` meets its contract: the largest size of n places. Invariant: `largest` is the largest size of the first k. Measure: n − k. A
+-- round is the definition's step, by the contracts of `floats::abs` and `floats::max`; the start is zero, as the definition's. At the end k is n.
 use borrow.Author.Needs.{needs}
 use native.Mathlib.Omega.{arith}
 use Prim.Native.Nat.{_≤_, _-_}

@@ -1,3 +1,5 @@
+-- `series::inner::multiply` meets its contract: the rows four at a time, then the rest. What `multiply_rest` ensures for any list holds for that of the entry,
+-- of which `multiply_fours` has left the first `done` numbers of the product.
 use borrow.Author.Needs.{needs}
 use Rattle.series.proofs.inner.multiply.Statement.{statement}
 use Rattle.series.proofs.inner.multiply.Tie as tie

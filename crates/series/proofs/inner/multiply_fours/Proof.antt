@@ -1,51 +1,31 @@
+-- `series::inner::multiply_fours` meets its contract: rows of B times a vector, four at a time, into next. Invariant: the first r numbers of the product stand
+-- in next, all else is as it was (`Multiplying`). Measure: n − r. The rows and the vector lie before next, so they are as at entry, and the four dot products
+-- are the next four numbers (`product-four`). The last row that is read is row r + 3, below n (`row-in`).
 use native.Mathlib.Omega.{arith}
-use Prim.Native.Nat.{_≤_, _-_, _+_}
-use mathlib.Core.Path.{_≡_, refl}
-use lib.ListN.{length, length-set}
+use Prim.Native.Nat.{ℕ, _-_, _+_, _*_, _<_, _≤_}
+use lib.ListN.{length-set}
 use Rattle.basics.proofs.Tests.{row-in}
 use Rattle.series.specs.Scratch.{width}
-use Rattle.series.specs.Loops.{ProductTo}
-use Rattle.linear.proofs.Parts.{filled-none}
-use Rattle.series.proofs.Products.{product-four}
+use Rattle.linear.proofs.Parts.{filling-none}
+use Rattle.series.proofs.Products.{Multiplying, product-four}
 use Rattle.series.proofs.inner.multiply_fours.Statement.{statement}
 use Rattle.series.proofs.inner.multiply_fours.Tie as tie
 
 abbrev Inv-loop : tie.InvT-loop
-Inv-loop s₀ n v w next r₀ s r = (r ≤ n) × (length s ≡ length s₀) × ProductTo n v r s₀ s
+Inv-loop s₀ n v w next r₀ s r = Multiplying n v s₀ r s
 
 abbrev μ-loop : tie.MeasureT-loop
 μ-loop s₀ n v w next r₀ s r = n - r
 
-loop-holds : tie.Need-loop-holds Inv-loop μ-loop
-loop-holds c = (omega arith, refl, filled-none)
-
-mul-dot-four : tie.Need-mul-dot-four Inv-loop μ-loop
-mul-dot-four c =
-    let at-start : tie.Start Inv-loop μ-loop = search in
-    omega (arith, row-in (c .before .before .loop .r + 3) (at-start .args .n) (width (at-start .args .n)) (omega arith))
-
-add-dot-four-2 : tie.Need-add-dot-four-2 Inv-loop μ-loop
-add-dot-four-2 c =
-    let at-start : tie.Start Inv-loop μ-loop = search in
-    omega (arith, row-in (c .before .before .loop .r + 3) (at-start .args .n) (width (at-start .args .n)) (omega arith))
-
-dot-four-requires : tie.Need-dot-four-requires Inv-loop μ-loop
-dot-four-requires c κs =
-    let at-start : tie.Start Inv-loop μ-loop = search in
-    omega (arith, row-in (c .before .before .loop .r + 3) (at-start .args .n) (width (at-start .args .n)) (omega arith))
+-- a row below n lies in the n rows
+row : (c : tie.Start Inv-loop μ-loop) (r : ℕ) → let n = c .args .n in r < n → r * width n + width n ≤ n * width n
+row c r = row-in r (c .args .n) (width (c .args .n))
 
 loop-again : tie.Need-loop-again Inv-loop μ-loop
 loop-again c =
     let at-loop : tie.At-loop Inv-loop μ-loop = search in
-    let at-start : tie.Start Inv-loop μ-loop = search in (
-      omega arith,
-      simp length-set (omega arith),
-      product-four (at-start .args .n) (at-start .args .v) (at-loop .loop .r) (omega arith) _ _ (at-loop .loop .inv .2) (c .dot-four .result) (omega arith)
-          (omega arith) (c .dot-four .ensures),
-    )
-
-returns : tie.Need-returns Inv-loop μ-loop
-returns c = (omega arith, c .before .loop .inv .2)
+    let at-start : tie.Start Inv-loop μ-loop = search in
+    product-four (at-start .args .n) (at-start .args .v) (omega arith) (at-loop .loop .inv) (omega arith) (omega arith) (c .dot-four .ensures)
 
 pub multiply-fours-spec : {M : Type 1} → statement M
 multiply-fours-spec =
@@ -58,12 +38,12 @@ multiply-fours-spec =
     (λ c. omega arith)
     (λ c. omega arith)
     (λ c. omega arith)
-    loop-holds
+    (λ c. filling-none)
     (λ c. omega arith)
-    mul-dot-four
+    (λ c. omega (arith, row (search) (c .before .before .loop .r + 3) (omega arith)))
     (λ c. omega arith)
-    add-dot-four-2
-    dot-four-requires
+    (λ c. omega (arith, row (search) (c .before .before .loop .r + 3) (omega arith)))
+    (λ c κs. omega (arith, row (search) (c .before .before .loop .r + 3) (omega arith)))
     (λ c. omega arith)
     (λ c. omega arith)
     (λ c. omega arith)
@@ -83,4 +63,4 @@ multiply-fours-spec =
     (λ c. omega arith)
     loop-again
     (λ c. omega arith)
-    returns)
+    (λ c. (c .before .loop .inv .most, c .before .loop .inv .part)))

@@ -1,5 +1,8 @@
+-- `series::inner::multiply_rest` meets its contract: for any list, where the first `done` numbers of its product stand in next at entry, all n do at the end.
+-- Invariant: for any such list the first r do (`ProductTo`). Measure: n − r. The rows and the vector lie before next, so they are as in that list, and the dot
+-- product of row r is the next number (`product-more`). Row r is below n (`row-in`).
 use native.Mathlib.Omega.{arith}
-use Prim.Native.Nat.{_≤_, _-_}
+use Prim.Native.Nat.{ℕ, _-_, _+_, _*_, _<_, _≤_}
 use mathlib.Core.Path.{_≡_, refl}
 use mathlib.Core.List.{List}
 use lib.Ieee.{Float}
@@ -17,32 +20,18 @@ Inv-loop s₀ n v done w next r₀ s r = (r ≤ n) × (length s ≡ length s₀)
 abbrev μ-loop : tie.MeasureT-loop
 μ-loop s₀ n v done w next r₀ s r = n - r
 
-loop-holds : tie.Need-loop-holds Inv-loop μ-loop
-loop-holds c = (omega arith, refl, λ l p. p)
-
-mul-dot-product : tie.Need-mul-dot-product Inv-loop μ-loop
-mul-dot-product c =
-    let at-start : tie.Start Inv-loop μ-loop = search in
-    omega (arith, row-in (c .before .before .loop .r) (at-start .args .n) (width (at-start .args .n)) (omega arith))
-
-add-dot-product-2 : tie.Need-add-dot-product-2 Inv-loop μ-loop
-add-dot-product-2 c =
-    let at-start : tie.Start Inv-loop μ-loop = search in
-    omega (arith, row-in (c .before .before .loop .r) (at-start .args .n) (width (at-start .args .n)) (omega arith))
-
-dot-product-requires : tie.Need-dot-product-requires Inv-loop μ-loop
-dot-product-requires c κs =
-    let at-start : tie.Start Inv-loop μ-loop = search in
-    omega (arith, row-in (c .before .before .loop .r) (at-start .args .n) (width (at-start .args .n)) (omega arith))
+-- a row below n lies in the n rows
+row : (c : tie.Start Inv-loop μ-loop) (r : ℕ) → let n = c .args .n in r < n → r * width n + width n ≤ n * width n
+row c r = row-in r (c .args .n) (width (c .args .n))
 
 loop-again : tie.Need-loop-again Inv-loop μ-loop
 loop-again c =
     let at-loop : tie.At-loop Inv-loop μ-loop = search in
-    let at-start : tie.Start Inv-loop μ-loop = search in (
+    let at-start : tie.Start Inv-loop μ-loop = search in
+    let a = at-start .args in (
       omega arith,
       simp length-set (omega arith),
-      λ l p. product-more (at-start .args .n) (at-start .args .v) (at-loop .loop .r) (omega arith) _ _ (at-loop .loop .inv .2 l p) _ (omega arith) (omega arith)
-          (c .dot-product .ensures),
+      λ l p. product-more (a .n) (a .v) (omega arith) (at-loop .loop .inv .2 l p) (omega arith) (omega arith) (c .dot-product .ensures),
     )
 
 returns : tie.Need-returns Inv-loop μ-loop
@@ -61,11 +50,11 @@ multiply-rest-spec =
     (λ c. omega arith)
     (λ c. omega arith)
     (λ c. omega arith)
-    loop-holds
-    mul-dot-product
+    (λ c. (omega arith, refl, λ l p. p))
+    (λ c. omega (arith, row (search) (c .before .before .loop .r) (omega arith)))
     (λ c. omega arith)
-    add-dot-product-2
-    dot-product-requires
+    (λ c. omega (arith, row (search) (c .before .before .loop .r) (omega arith)))
+    (λ c κs. omega (arith, row (search) (c .before .before .loop .r) (omega arith)))
     (λ c. omega arith)
     (λ c. omega arith)
     (λ c. omega arith)

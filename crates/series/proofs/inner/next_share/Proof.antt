@@ -1,24 +1,15 @@
+-- `series::inner::next_share` meets its contract: next = B × share, and share = F + next. No loop: the two callees' contracts in a row are the law
+-- `share-round`. `add_column` asks that the column F can be read while share is written: share lies behind the rows (`column-read`).
 use native.Mathlib.Omega.{arith}
-use Prim.Native.Nat.{_+_}
-use Rattle.series.specs.Scratch.{shareAt}
 use Rattle.series.proofs.Rounds.{column-read, share-round}
 use borrow.Author.Needs.{needs}
 use Rattle.series.proofs.inner.next_share.Statement.{statement}
 use Rattle.series.proofs.inner.next_share.Tie as tie
 
-add-column-requires : tie.Need-add-column-requires
-add-column-requires c κs =
-    let at-start : tie.Start = search in (
-      column-read (at-start .args .n) (at-start .args .n + 1) (shareAt (at-start .args .n)) _ (omega arith) (omega arith) (omega arith),
-      omega arith,
-      omega arith,
-    )
-
 returns : tie.Need-returns
 returns c =
     let at-multiply : tie.After-multiply = search in
-    let at-start : tie.Start = search in
-    share-round (at-start .args .n) _ _ _ (at-multiply .multiply .ensures) (c .before .before .add-column .ensures)
+    share-round (at-multiply .multiply .ensures) (c .before .before .add-column .ensures)
 
 pub next-share-spec : {M : Type 1} → statement M
 next-share-spec =
@@ -33,6 +24,6 @@ next-share-spec =
     (λ c. search needs)
     (λ c κs. search needs)
     (λ c. search needs)
-    add-column-requires
+    (λ c κs. (column-read (omega arith) (omega arith) (omega arith), omega arith, omega arith))
     (λ c. search needs)
     returns)

@@ -1,3 +1,4 @@
+-- `signals::inner::adjustment_of` meets its contract: the test of the status is that of the definition, taken or left; 0.0 is `posZero`.
 use mathlib.Core.Path.{sym, ap}
 use mathlib.Core.Bool.{Bool, cond}
 use borrow.Author.Tests.{eq-eqb, ne-eqb}

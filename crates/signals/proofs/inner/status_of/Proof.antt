@@ -1,3 +1,5 @@
+-- `signals::inner::status_of` meets its contract: four ways out, one for each of the numbers 0, 1, 2 and for any other; each test taken or left decides the
+-- same test of the definition.
 use borrow.Author.Tests.{eq-eqb, ne-eqb}
 use Rattle.signals.proofs.inner.status_of.Statement.{statement}
 use Rattle.signals.proofs.inner.status_of.Tie as tie
