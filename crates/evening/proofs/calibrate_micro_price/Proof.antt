@@ -1,4 +1,4 @@
--- `evening::calibrate_micro_price` meets its contract: a walk of its MIR, by hand. The struct's borrow is opened and the whole struct copied out;
+-- `evening::calibrate_micro_price` meets its contract: a walk of its MIR in the program logic. The struct's borrow is opened and the whole struct copied out;
 -- `inner::calibrate_micro_price` is called on it, with the slices given up at their own lifetimes; what it returns is stored behind the reference, and the
 -- borrow is closed at it.
 -- The walk reads neither contract: what `calibrate_micro_price` requires is what `inner::calibrate_micro_price` requires, and what

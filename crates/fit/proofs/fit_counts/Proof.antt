@@ -1,5 +1,5 @@
--- `fit::fit_counts` meets its contract: a walk of its MIR, by hand. The struct's borrow is looked into and the whole struct copied out; `inner::fit_counts` is
--- called on it, with the slices given up at their own lifetimes.
+-- `fit::fit_counts` meets its contract: a walk of its MIR in the program logic. The struct's borrow is looked into and the whole struct copied out;
+-- `inner::fit_counts` is called on it, with the slices given up at their own lifetimes.
 -- The walk reads neither contract: what `fit_counts` requires is what `inner::fit_counts` requires, and what `inner::fit_counts` ensures is what `fit_counts`
 -- ensures, each by computation. All that it knows of `inner::fit_counts` is that it meets its contract.
 -- tools/thin.py wrote it from its entry in tools/walks.json; `tools/walks.py --write` writes it anew.

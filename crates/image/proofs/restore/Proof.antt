@@ -1,5 +1,5 @@
--- `image::restore` meets its contract: a walk of its MIR, by hand. The struct's borrow is opened and the whole struct copied out; `inner::restore` is called on
--- it, with the slices given up at their own lifetimes; what it returns is stored behind the reference, and the borrow is closed at it.
+-- `image::restore` meets its contract: a walk of its MIR in the program logic. The struct's borrow is opened and the whole struct copied out; `inner::restore`
+-- is called on it, with the slices given up at their own lifetimes; what it returns is stored behind the reference, and the borrow is closed at it.
 -- The walk reads neither contract: what `restore` requires is what `inner::restore` requires, and what `inner::restore` ensures is what `restore` ensures, each
 -- by computation. All that it knows of `inner::restore` is that it meets its contract.
 -- tools/thin.py wrote it from its entry in tools/walks.json; `tools/walks.py --write` writes it anew.

@@ -1,5 +1,5 @@
--- `image::save` meets its contract: a walk of its MIR, by hand. The struct's borrow is looked into and the whole struct copied out; `inner::save` is called on
--- it, with the slices given up at their own lifetimes.
+-- `image::save` meets its contract: a walk of its MIR in the program logic. The struct's borrow is looked into and the whole struct copied out; `inner::save`
+-- is called on it, with the slices given up at their own lifetimes.
 -- The walk reads neither contract: what `save` requires is what `inner::save` requires, and what `inner::save` ensures is what `save` ensures, each by
 -- computation. All that it knows of `inner::save` is that it meets its contract.
 -- tools/thin.py wrote it from its entry in tools/walks.json; `tools/walks.py --write` writes it anew.
