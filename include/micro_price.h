@@ -19,8 +19,9 @@
  *   recording, calls  5 words a quote; 6 words a call
  *
  * Answers: 0, the number of a refusal from 1 to 19, or MICRO_PRICE_BAD_ENCODING, before all else, if config, rec or a
- * signal's out has another length than is said here or rec's words are not of this form. A refusal writes nothing, unless
- * it is said below.
+ * signal's out has another length than is said here or, where rec is read, its words are not of this form. new, restore and
+ * calibrate overwrite rec: it may hold any ten words before, and needs no clearing. A refusal writes nothing, unless it is
+ * said below.
  */
 #ifndef MICRO_PRICE_H
 #define MICRO_PRICE_H
@@ -57,7 +58,7 @@ extern "C" {
 /* Whether a configuration is valid: 0 or 1. */
 uint64_t micro_price_validate(const uint64_t *config, size_t config_len);
 
-/* Empties the record and zeroes the three tables. rec has to hold a record before, ten zeros for one. */
+/* Empties the record and zeroes the three tables, whatever they hold. */
 uint64_t micro_price_new(const uint64_t *config, size_t config_len, uint64_t *rec, size_t rec_len, uint64_t *stay,
                          size_t stay_len, uint64_t *moved, size_t moved_len, int64_t *move_half_ticks,
                          size_t move_half_ticks_len);
@@ -73,7 +74,7 @@ uint64_t micro_price_save(const uint64_t *config, size_t config_len, const uint6
                           const uint64_t *stay, size_t stay_len, const uint64_t *moved, size_t moved_len,
                           const int64_t *move_half_ticks, size_t move_half_ticks_len, uint8_t *out, size_t out_len);
 
-/* Takes an image back: fills config, rec and the tables. rec has to hold a record before, ten zeros for one. */
+/* Takes an image back: fills config, rec and the tables, whatever they hold. */
 uint64_t micro_price_restore(const uint8_t *image, size_t image_len, uint64_t *config, size_t config_len, uint64_t *rec,
                              size_t rec_len, uint64_t *stay, size_t stay_len, uint64_t *moved, size_t moved_len,
                              int64_t *move_half_ticks, size_t move_half_ticks_len);
@@ -98,8 +99,8 @@ uint64_t micro_price_signal(const uint64_t *config, size_t config_len, const uin
 uint64_t micro_price_window_of(const uint64_t *recording, size_t recording_len, uint64_t start, uint64_t end,
                                uint64_t *first, uint64_t *past);
 
-/* Counts the quotes of the window from new, and fits the counts. At 0 and 16 to 19 the counts are left and *invalid is the
- * number of invalid quotes; at 2 and 6 rec and the tables are left as new leaves them. */
+/* Counts the quotes of the window from new, and fits the counts, whatever rec and the tables hold. At 0 and 16 to 19 the
+ * counts are left and *invalid is the number of invalid quotes; at 2 and 6 rec and the tables are left as new leaves them. */
 uint64_t micro_price_calibrate(const uint64_t *config, size_t config_len, uint64_t *rec, size_t rec_len, uint64_t *stay,
                                size_t stay_len, uint64_t *moved, size_t moved_len, int64_t *move_half_ticks,
                                size_t move_half_ticks_len, const uint64_t *recording, size_t recording_len,
@@ -108,8 +109,9 @@ uint64_t micro_price_calibrate(const uint64_t *config, size_t config_len, uint64
 
 /* Runs a list of calls and writes the answer of each. A call is 6 words: 0 and a quote; 1 (save) or 2 (restore), where its
  * bytes begin in room, how many they are, and three words of any content. An answer is 0 or a refusal, or
- * MICRO_PRICE_OTHER_CONFIGURATION for a restore of an image with another configuration. MICRO_PRICE_BAD_ENCODING, with
- * nothing changed, also if calls is not a call for each answer, a kind is over 2, or bytes end past the room. */
+ * MICRO_PRICE_OTHER_CONFIGURATION for a restore that nothing refuses, of an image with another configuration: it changes
+ * nothing, and the calls after it go on. MICRO_PRICE_BAD_ENCODING, with nothing changed, also if calls is not a call for each
+ * answer, a kind is over 2, or bytes end past the room. */
 uint64_t micro_price_replay(const uint64_t *config, size_t config_len, uint64_t *rec, size_t rec_len, uint64_t *stay,
                             size_t stay_len, uint64_t *moved, size_t moved_len, int64_t *move_half_ticks,
                             size_t move_half_ticks_len, const uint64_t *calls, size_t calls_len, uint8_t *room,

@@ -24,6 +24,7 @@ quotes() {
 quotes run_not_converged '0 100 101 9 1' '1 101 102 9 1'
 quotes run_outside_quotes '0 100 101 9 1' '1 101 102 5 5'
 quotes worked_example '0 100 101 9 1' '1 100 102 5 5'
+quotes two_rounds '0 100 101 1 9' '1 100 102 1 9' '2 101 103 5 5'
 quotes half_spread_difference '0 100 101 1 9' '1 100 101 1 9' '2 100 101 1 9' '3 100 101 1 9' '4 100 101 1 9' '5 99 101 5 5'
 "$oracle" tables fallback_adjustment <evening_fallback_adjustment.txt | same fallback_adjustment
 

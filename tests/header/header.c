@@ -20,7 +20,7 @@ static uint64_t moved[CELLS];
 static int64_t totals[STATES];
 
 static uint8_t image[IMAGE];
-static uint64_t config_back[5];
+static uint64_t config_back[5] = {7, 7, 7, 7, 7};
 static uint64_t rec_back[10];
 static uint64_t stay_back[CELLS];
 static uint64_t moved_back[CELLS];
@@ -73,8 +73,24 @@ static int validates(void) {
         && micro_price_validate(config, 4) == MICRO_PRICE_BAD_ENCODING;
 }
 
+/* Memory that was not cleared. */
+static void soil(uint64_t *words) {
+    size_t i;
+    for (i = 0; i < 10; i++)
+        words[i] = 0xa5a5a5a5a5a5a5a5u;
+}
+
+static int soiled(const uint64_t *words) {
+    uint64_t other[10];
+    soil(other);
+    return same(words, other, 10);
+}
+
 static int starts(void) {
     uint64_t answer;
+    soil(rec);
+    if (micro_price_new(even, 5, rec, 10, stay, CELLS, moved, CELLS, totals, STATES) != MICRO_PRICE_CONFIGURATION || !soiled(rec))
+        return 0;
     stay[7] = moved[8] = 9;
     totals[1] = -9;
     answer = micro_price_new(config, 5, rec, 10, stay, CELLS, moved, CELLS, totals, STATES);
@@ -103,8 +119,10 @@ static int saves(void) {
 }
 
 static int restores(void) {
+    soil(rec_back);
     if (micro_price_restore(image, 159, config_back, 5, rec_back, 10, stay_back, CELLS, moved_back, CELLS, totals_back, STATES)
-        != MICRO_PRICE_IMAGE_LAYOUT)
+            != MICRO_PRICE_IMAGE_LAYOUT
+        || !soiled(rec_back))
         return 0;
     if (micro_price_restore(image, IMAGE, config_back, 5, rec_back, 10, stay_back, CELLS, moved_back, CELLS, totals_back, STATES)
         != 0)
@@ -169,6 +187,12 @@ static int calibrates(void) {
     uint64_t i;
     for (i = 0; i < 7 * STATES; i++)
         model[i] = 0;
+    soil(rec_back);
+    if (micro_price_calibrate(config, 5, rec_back, 10, stay_back, CELLS, moved_back, CELLS, totals_back, STATES, recording, 9, 1,
+                              10, scratch, SCRATCH, model, 7 * STATES, &invalid)
+            != MICRO_PRICE_SLICE_LENGTH
+        || invalid != 77 || !soiled(rec_back))
+        return 0;
     if (micro_price_calibrate(config, 5, rec_back, 10, stay_back, CELLS, moved_back, CELLS, totals_back, STATES, recording, 10, 1,
                               10, scratch, SCRATCH, model, 7 * STATES, &invalid)
             != MICRO_PRICE_NO_CALIBRATED_STATE

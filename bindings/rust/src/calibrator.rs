@@ -40,8 +40,7 @@ pub enum Call {
 pub enum Replayed {
     Done,
     Refused(Refusal),
-    /// A restore of an image with another configuration. It is done, and the configuration stays: later calls may be refused
-    /// by 8, 9, 10 or 11.
+    /// A restore that nothing refuses, of an image with another configuration. It is not done, and changes nothing.
     OtherConfiguration,
 }
 

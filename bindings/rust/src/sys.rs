@@ -1,6 +1,6 @@
 //! The functions of `include/micro_price.h` as they are; the header says what each takes and answers.
 
-/// What `micro_price_replay` answers for the restore of an image with another configuration.
+/// What `micro_price_replay` answers for the restore of an image with another configuration, which it does not make.
 pub const OTHER_CONFIGURATION: u64 = 101;
 
 unsafe extern "C" {

@@ -595,7 +595,7 @@ fn a_journal_is_replayed() {
         calibrator.replay(&of_another, &mut room),
         Ok(vec![Replayed::OtherConfiguration])
     );
-    assert_eq!(calibrator, Calibrator::new(CONFIG).unwrap());
+    assert_eq!(calibrator, at_save, "nothing is done");
     assert_eq!(calibrator.replay(&[], &mut []), Ok(vec![]));
 }
 

@@ -50,13 +50,13 @@ module _ (c : MicroPriceConfig) (m : Memory Previous) (t₀ : List ℕ) (l : Lis
   t = fitCounts c m t₀ l .model
 
   mirrored : (i : ℕ) → i < states c → RowsOpposite (rowAt t i) (rowAt t (mirrorOf (c .«imbalance_buckets») i))
-  mirrored = fit-mirrors 10000 9 c m t₀ l fine
+  mirrored = fit-mirrors 10000 10 c m t₀ l fine
 
   inside : (i : ℕ) → i < states c → rowAt t i .status ≡ 0 → Inside c i (rowAt t i .adjustment)
-  inside = calibrated-inside 10000 9 c m t₀ l fine
+  inside = calibrated-inside 10000 10 c m t₀ l fine
 
   row-of : (i : ℕ) → i < states c → RowOf c i (rowAt t i)
-  row-of = fit-written 10000 9 c m t₀ l fine .row-of
+  row-of = fit-written 10000 10 c m t₀ l fine .row-of
 
   served : (q : TopOfBook) (i : ℕ) → signalOf c t q ≡ Refused (ModelRow i) → ⊥
   served = all-served c t (λ i h. row-serves c i (rowAt t i) (row-of i h) (inside i h))
@@ -77,8 +77,8 @@ module _ (c : MicroPriceConfig) (m : Memory Previous) (t₀ : List ℕ) (l : Lis
       λ i h. ap (λ (b : Bool). cond b Check.Fine (Check.Refused (ModelRow i)))
       (row-checked c i (rowAt t i) (row-of i h) (inside i h) (rowAt t (mirrorOf (c .«imbalance_buckets») i)) (row-held t i) (mirrored i h) (rest i h)) in
       λ d.
-      firstOf (refuseIf (not (fit-valid 10000 9 c m t₀ l fine d)) 1)
-      (firstOf (refuseIf (not (eq-eqb (length t) (7 * states c) (table-long 10000 9 c m t₀ l fine) d)) 7)
+      firstOf (refuseIf (not (fit-valid 10000 10 c m t₀ l fine d)) 1)
+      (firstOf (refuseIf (not (eq-eqb (length t) (7 * states c) (table-long 10000 10 c m t₀ l fine) d)) 7)
       (first-all (checkRow c t) 0 (states c) (λ i h. row i (omega arith)) d))
 
   pub model-fitted : Model c t
@@ -116,7 +116,7 @@ module _ (c : MicroPriceConfig) (e : valid c ≡ true) (fits : ConfigWords c) (k
           ap (λ (x : Check). fitUnless x (states c) (fitOf 10000 10 (givenOf c (left c ks .counts))) t l .answer) (sym f) ∙ a in
           let q : refusal 7 ≡ r = cc in
           inl (ap numberOf (sym q))
-      go false f = inr (fit-numbers 10000 9 c (left c ks) t l r f a)
+      go false f = inr (fit-numbers 10000 10 c (left c ks) t l r f a)
 
   -- demand 3, its last sentence
   pub model-after : (t : List ℕ) (l : List Float) → fitCounts c (left c ks) t l .answer ≡ Check.Fine → Model c (fitCounts c (left c ks) t l .model)

@@ -259,7 +259,7 @@ module _ (c : MicroPriceConfig) (fits : ConfigWords c) (e : valid c ≡ true) wh
           demand = D;
           invalid-are = new-invalid c e qs ordered fine;
           fit-is = ap (λ (x : Memory Previous). fitCounts c x t l) M;
-          fit-numbers = λ r a. fit-numbers 10000 9 c (R .left) t l r F a;
+          fit-numbers = λ r a. fit-numbers 10000 10 c (R .left) t l r F a;
           model = λ a. model-fitted c (R .left) t l a;
         }
 

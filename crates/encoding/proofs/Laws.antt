@@ -19,7 +19,7 @@ use Rattle.tally.specs.Entries.{Tables, tables}
 use Rattle.tally.specs.Rules.{Memory}
 use Rattle.layout.specs.Layout.{previousWords, recordWords}
 use Rattle.layout.proofs.Headers.{same-equal}
-use Rattle.encoding.specs.Encoding.{isConfig, configWords, configOf, wordsOf, previousOf, countersOf, recordOf, isRecord, areZero, encoded}
+use Rattle.encoding.specs.Encoding.{isConfig, configWords, configOf, wordsOf, previousOf, countersOf, recordOf, isRecord, areZero, fiveAndTen, encoded}
 
 -- ---- a configuration
 
@@ -42,10 +42,6 @@ module _ (w : List ℕ) where
   pub record-long : isRecord w ≡ true → length w ≡ 10
   record-long e = ap length (same-equal w (wordsOf (memory (recordOf w) [] [] [])) e) ∙ record-words-long (previousOf w) (countersOf w) (tables [] [] [])
 
-  -- such words are those of the record that they tell, whatever the tables
-  pub words-back : isRecord w ≡ true → (s m : List ℕ) (t : List ℤ) → wordsOf (memory (recordOf w) s m t) ≡ w
-  words-back e s m t = sym (same-equal w (wordsOf (memory (recordOf w) [] [] [])) e)
-
 record-back-of : (l : Previous) (k : Counters) (s m : List ℕ) (t : List ℤ)
     → recordOf (wordsOf (memory (record { previous = l; counters = k }) s m t)) ≡ record { previous = l; counters = k }
 record-back-of Nothing k s m t = refl
@@ -61,11 +57,6 @@ written-of (Quoted q) k s m t = simp eqb-same
 
 pub record-written : (r : Record) (s m : List ℕ) (t : List ℤ) → isRecord (wordsOf (memory r s m t)) ≡ true
 record-written r s m t = written-of (r .previous) (r .counters) s m t
-
--- ---- both
-
-pub encoded-known : (c w : List ℕ) → encoded c w ≡ true → (isConfig c ≡ true) × (isRecord w ≡ true)
-encoded-known c w e = both (isConfig c) (isRecord w) e
 
 -- ---- as code judges them
 
@@ -121,22 +112,35 @@ record-put w long (Quoted q) k p e = rw e
 pub chosen : {A : Type 0} {x : A} {b : Bool} (y : A) → b ≡ true → x ≡ cond b x y
 chosen {x = x} y e = sym (ap (λ b. cond b x y) e)
 
--- what the test of the encoding gives to the calls after it
-pub record Encoded (c w : List ℕ) : Type 0 where
-  pub is : encoded c w ≡ true
+-- what a test of the words, b, gives to the calls after it
+pub record Judged (b : Bool) (c w : List ℕ) : Type 0 where
+  pub is : b ≡ true
   pub config : isConfig c ≡ true
-  pub rec : isRecord w ≡ true
   pub ten : length w ≡ 10
 
-pub encoded-by : (c w : List ℕ) (b : Bool) → b ≡ encoded c w → b ≡ true → Encoded c w
-encoded-by c w b judged holds =
-    let e : encoded c w ≡ true = sym judged ∙ holds in
-    let k = encoded-known c w e in
-    record { is = e; config = k .0; rec = k .1; ten = record-long w (k .1) }
+abbrev pub Long : List ℕ → List ℕ → Type 0
+Long c w = Judged (fiveAndTen c w) c w
 
--- an operation on the record and the configuration that encoded words tell: what is left of it, x, is what the exported operation says
-module _ (c w s m : List ℕ) (t : List ℤ) (k : Encoded c w) {r : Record} (told : r ≡ recordOf w) {d : MicroPriceConfig} (decoded : d ≡ configOf c) where
+abbrev pub Encoded : List ℕ → List ℕ → Type 0
+Encoded c w = Judged (encoded c w) c w
+
+module _ (c w : List ℕ) (b : Bool) where
+  pub long-by : b ≡ fiveAndTen c w → b ≡ true → Long c w
+  long-by judged holds =
+      let e : fiveAndTen c w ≡ true = sym judged ∙ holds in
+      let k = both (isConfig c) (eqb (length w) 10) e in
+      record { is = e; config = k .0; ten = eqb-true (length w) 10 (k .1) }
+
+  pub encoded-by : b ≡ encoded c w → b ≡ true → Encoded c w
+  encoded-by judged holds =
+      let e : encoded c w ≡ true = sym judged ∙ holds in
+      let k = both (isConfig c) (isRecord w) e in
+      record { is = e; config = k .0; ten = record-long w (k .1) }
+
+-- an operation on the record and the configuration that judged words tell: what is left of it, x, is what the exported operation says
+module _ (c w s m : List ℕ) (t : List ℤ) {b : Bool} (k : Judged b c w) {r : Record} (told : r ≡ recordOf w)
+    {d : MicroPriceConfig} (decoded : d ≡ configOf c) where
   pub operation-words : {O X : Type 0} (f : MicroPriceConfig → Memory Previous → O) (out : O → X) {o : O} → o ≡ f d (memory r s m t) → {x : X} → x ≡ out o
-      → (other : X) → x ≡ cond (encoded c w) (out (f (configOf c) (memory (recordOf w) s m t))) other
+      → (other : X) → x ≡ cond b (out (f (configOf c) (memory (recordOf w) s m t))) other
   operation-words f out done left other =
       left ∙ ap out (done ∙ (λ j. f (decoded j) (memory (told j) s m t))) ∙ chosen other (k .is)

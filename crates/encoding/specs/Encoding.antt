@@ -5,6 +5,8 @@ use mathlib.Core.List.{List, [], _∷_}
 use lib.Dec.{eqb}
 use lib.IntN.{ℤ}
 use lib.ListN.{length, getD}
+use Rattle.refusals.specs.declared.Check.{Check}
+use Rattle.refusals.specs.declared.Check.the-variants.{Fine, Refused}
 use Rattle.config.specs.Configuration.{newConfig, withMinStateObservations, withMaxQuoteGapMs}
 use Rattle.config.specs.declared.MicroPriceConfig.{MicroPriceConfig}
 use Rattle.quotes.specs.declared.TopOfBook.{TopOfBook}
@@ -62,6 +64,10 @@ isRecord w = sameWords w (wordsOf (memory (recordOf w) [] [] []))
 abbrev pub areZero : ℕ → ℕ → ℕ → ℕ → ℕ → Bool
 areZero a b c d e = eqb a 0 && eqb b 0 && eqb c 0 && eqb d 0 && eqb e 0
 
+-- five words, and ten: whatever they hold, they have room for a configuration and for a record
+abbrev pub fiveAndTen : List ℕ → List ℕ → Bool
+fiveAndTen c w = isConfig c && eqb (length w) 10
+
 -- a configuration and a record
 abbrev pub encoded : List ℕ → List ℕ → Bool
 encoded c w = isConfig c && isRecord w
@@ -91,7 +97,12 @@ abbrev pub lent : ℕ → List ℕ → List ℕ → List ℕ → List ℤ → Le
 lent answer rec stay moved totals =
     record { answer = answer; rec = rec; stay = stay; moved = moved; totals = totals }
 
--- an answer as a number, and a memory as words and tables
-abbrev pub lentAs : ℕ → Memory Previous → Lent
-lentAs answer m =
-    lent answer (wordsOf m) (m .counts .tables .stay) (m .counts .tables .moved) (m .counts .tables .totals)
+-- an answer, the record's words, and the tables of a memory
+abbrev pub lentAs : ℕ → List ℕ → Memory Previous → Lent
+lentAs answer w m =
+    lent answer w (m .counts .tables .stay) (m .counts .tables .moved) (m .counts .tables .totals)
+
+-- the record's words after an operation that was lent the words w and leaves m: refused, as they came; else those of m
+abbrev pub wordsUnless : Check → List ℕ → Memory Previous → List ℕ
+wordsUnless Fine w m = wordsOf m
+wordsUnless (Refused r) w m = w

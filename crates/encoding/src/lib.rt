@@ -11,7 +11,7 @@ ghost use Prim.Native.Nat.{_≤_};
 ghost use lib.ListN.{length};
 ghost use Rattle.basics.specs.Loan.{given, final};
 ghost use Rattle.calibrator.specs.Record.{memory};
-ghost use Rattle.encoding.specs.Encoding.{isConfig, configOf, configWords, wordsOf, previousOf, recordOf, isRecord, areZero, encoded};
+ghost use Rattle.encoding.specs.Encoding.{isConfig, configOf, configWords, wordsOf, previousOf, recordOf, isRecord, areZero, fiveAndTen, encoded};
 
 // What an exported operation answers to words that are no configuration or no record.
 pub const BAD_ENCODING: u64 = 100;
@@ -58,6 +58,13 @@ pub fn is_record(w: &[u64]) -> bool
     (w[0] == 0) & are_zero(w[1], w[2], w[3], w[4], w[5])
 }
 
+// Whether the words are five and ten.
+pub fn five_and_ten(c: &[u64], w: &[u64]) -> bool
+    ensures { λ r. ⌜ r ≡ fiveAndTen (given c) (given w) ⌝ }
+{
+    (c.len() == 5) & (w.len() == 10)
+}
+
 // Whether the words are a configuration's and a record's.
 pub fn is_encoded(c: &[u64], w: &[u64]) -> bool
     ensures { λ r. ⌜ r ≡ encoded (given c) (given w) ⌝ }
@@ -81,9 +88,9 @@ fn previous_of(w: &[u64]) -> Previous
     })
 }
 
-// The record of ten words.
+// The record that ten words tell, whatever they hold.
 pub fn record_of(w: &[u64]) -> Record
-    requires { ⌜ isRecord (now w) ≡ true ⌝ }
+    requires { ⌜ length (now w) ≡ 10 ⌝ }
     ensures { λ r. ⌜ r ≡ recordOf (given w) ⌝ }
 {
     let previous = previous_of(w);

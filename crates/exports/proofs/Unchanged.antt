@@ -1,10 +1,9 @@
--- An exported operation on counts that answers another number than 0 leaves all lent memory as it was.
+-- An exported operation on counts that answers another number than 0 leaves all lent memory as it was, whatever it holds.
 use Prim.Native.Nat.{ℕ}
 use mathlib.Core.Path.{_≡_, refl}
 use mathlib.Core.Bool.{Bool, true, false, cond}
 use mathlib.Core.List.{List}
 use lib.IntN.{ℤ}
-use Rattle.refusals.specs.Refusals.{numberOf}
 use Rattle.refusals.specs.declared.Check.{Check}
 use Rattle.refusals.specs.declared.Check.the-variants.{Fine, Refused}
 use Rattle.quotes.specs.declared.TopOfBook.{TopOfBook}
@@ -12,28 +11,24 @@ use Rattle.tally.specs.Rules.{Memory, step}
 use Rattle.calibrator.specs.Record.{memory, answered}
 use Rattle.calibrator.specs.Observe.{roomFor, fresh, rule, judge, refusalBy}
 use Rattle.calibrator.specs.declared.Previous.{Previous}
-use Rattle.encoding.specs.Encoding.{configOf, recordOf, isRecord, encoded, badEncoding, lent}
-use Rattle.encoding.proofs.Laws.{words-back, encoded-known}
+use Rattle.encoding.specs.Encoding.{configOf, recordOf, fiveAndTen, encoded, badEncoding, lent}
 use Rattle.exports.specs.Counting.{ofOutcome, newWords, observeWords}
 
 module _ (w s m : List ℕ) (t : List ℤ) where
-  outcome-kept : (b : Bool) → (b ≡ true → isRecord w ≡ true) → (k : Check) (after : Memory Previous)
-      → let x =
-      cond b (ofOutcome (answered k (memory (recordOf w) s m t) after)) (lent badEncoding w s m t) in (x .answer ≡ 0 → ⊥) → x ≡ lent (x .answer) w s m t
-  outcome-kept false e k after h = refl
-  outcome-kept true e Fine after h = absurd (h refl)
-  outcome-kept true e (Refused r) after h = λ j. lent (numberOf r) (words-back w (e refl) s m t j) s m t
+  outcome-kept : (b : Bool) (k : Check) (after : Memory Previous)
+      → let x = cond b (ofOutcome w (answered k (memory (recordOf w) s m t) after)) (lent badEncoding w s m t) in
+      (x .answer ≡ 0 → ⊥) → x ≡ lent (x .answer) w s m t
+  outcome-kept false k after h = refl
+  outcome-kept true Fine after h = absurd (h refl)
+  outcome-kept true (Refused r) after h = refl
 
 module _ (c w s m : List ℕ) (t : List ℤ) where
-  known : encoded c w ≡ true → isRecord w ≡ true
-  known e = encoded-known c w e .1
-
   pub new-unchanged : (newWords c w s m t .answer ≡ 0 → ⊥) → newWords c w s m t ≡ lent (newWords c w s m t .answer) w s m t
-  new-unchanged = outcome-kept w s m t (encoded c w) known (roomFor (configOf c) (memory (recordOf w) s m t)) (fresh (configOf c))
+  new-unchanged = outcome-kept w s m t (fiveAndTen c w) (roomFor (configOf c) (memory (recordOf w) s m t)) (fresh (configOf c))
 
   pub observe-unchanged : (q : TopOfBook) → (observeWords c w s m t q .answer ≡ 0 → ⊥)
       → observeWords c w s m t q ≡ lent (observeWords c w s m t q .answer) w s m t
   observe-unchanged q =
       let d = configOf c in
       let before = memory (recordOf w) s m t in
-      outcome-kept w s m t (encoded c w) known (refusalBy (rule d) (judge d) before q) (step (rule d) before q)
+      outcome-kept w s m t (encoded c w) (refusalBy (rule d) (judge d) before q) (step (rule d) before q)

@@ -1,5 +1,6 @@
 -- The exported forms of document 01's "New, and one quote": what they answer and leave in the memory that they are lent.
--- Words that are not encoded are answered with badEncoding and leave it as it is; else it is the operation's own definition, in numbers and words.
+-- Words that are not encoded, and of new other than five and ten words, are answered with badEncoding and leave it as it is; else it is the operation's own
+-- definition, in numbers and words.
 use Prim.Native.Nat.{ℕ}
 use mathlib.Core.Bool.{cond}
 use mathlib.Core.List.{List}
@@ -10,7 +11,7 @@ use Rattle.quotes.specs.declared.TopOfBook.{TopOfBook}
 use Rattle.calibrator.specs.Record.{memory, Outcome}
 use Rattle.calibrator.specs.Observe.{made, observed}
 use Rattle.calibrator.specs.declared.Previous.{Previous}
-use Rattle.encoding.specs.Encoding.{isConfig, configOf, recordOf, encoded, badEncoding, Lent, lent, lentAs}
+use Rattle.encoding.specs.Encoding.{isConfig, configOf, recordOf, fiveAndTen, encoded, badEncoding, Lent, lent, lentAs, wordsUnless}
 
 -- ---- the configuration
 
@@ -19,13 +20,15 @@ validateWords c = cond (isConfig c) (checkNumber (checkConfig (configOf c))) bad
 
 -- ---- new, and one quote
 
-abbrev pub ofOutcome : Outcome Previous → Lent
-ofOutcome o = lentAs (checkNumber (o .answer)) (o .left)
+-- what an operation leaves of the record's words w
+abbrev pub ofOutcome : List ℕ → Outcome Previous → Lent
+ofOutcome w o = lentAs (checkNumber (o .answer)) (wordsUnless (o .answer) w (o .left)) (o .left)
 
+-- the record is overwritten: its words may be any
 abbrev pub newWords : List ℕ → List ℕ → List ℕ → List ℕ → List ℤ → Lent
 newWords c w s m t =
-    cond (encoded c w) (ofOutcome (made (configOf c) (memory (recordOf w) s m t))) (lent badEncoding w s m t)
+    cond (fiveAndTen c w) (ofOutcome w (made (configOf c) (memory (recordOf w) s m t))) (lent badEncoding w s m t)
 
 abbrev pub observeWords : List ℕ → List ℕ → List ℕ → List ℕ → List ℤ → TopOfBook → Lent
 observeWords c w s m t q =
-    cond (encoded c w) (ofOutcome (observed (configOf c) (memory (recordOf w) s m t) q)) (lent badEncoding w s m t)
+    cond (encoded c w) (ofOutcome w (observed (configOf c) (memory (recordOf w) s m t) q)) (lent badEncoding w s m t)

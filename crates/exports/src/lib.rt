@@ -1,5 +1,6 @@
 // Document 01's configuration, new and quote for callers in C and Rust: numbers and lent slices alone. include/micro_price.h says how they are called.
-// A configuration is five words, a record ten (specs/Encoding.antt of `encoding`); other words are answered with BAD_ENCODING before all else. Every other answer is 0 or the number of a refusal.
+// A configuration is five words, a record ten (specs/Encoding.antt of `encoding`); other words are answered with BAD_ENCODING before all else, but new takes
+// any ten words for the record that it overwrites. Every other answer is 0 or the number of a refusal.
 use encoding::BAD_ENCODING;
 use quotes::TopOfBook;
 use refusals::Check;
@@ -19,7 +20,7 @@ pub extern "C" fn micro_price_validate(config: &[u64]) -> u64
     refusals::check_number(encoding::config_of(config).validate())
 }
 
-// Empties the record and zeroes the three tables.
+// Empties the record and zeroes the three tables. A refusal writes nothing.
 #[no_mangle]
 pub extern "C" fn micro_price_new(
     config: &[u64],
@@ -30,7 +31,7 @@ pub extern "C" fn micro_price_new(
 ) -> u64
     ensures { λ n. ⌜ lent n (final rec) (final stay) (final moved) (final «move_half_ticks») ≡ newWords (given config) (given rec) (given stay) (given moved) (given «move_half_ticks») ⌝ }
 {
-    if !encoding::is_encoded(config, rec) {
+    if !encoding::five_and_ten(config, rec) {
         return BAD_ENCODING;
     }
     let before = encoding::record_of(rec);
@@ -42,11 +43,14 @@ pub extern "C" fn micro_price_new(
         encoding::config_of(config),
     );
     let answer = made.answer;
+    let Check::Fine = answer else {
+        return refusals::check_number(answer);
+    };
     encoding::put_record(rec, made.next);
-    refusals::check_number(answer)
+    0
 }
 
-// Adds the next quote. A refusal leaves the record, so its words are not written.
+// Adds the next quote. A refusal writes nothing.
 #[no_mangle]
 pub extern "C" fn micro_price_observe(
     config: &[u64],

@@ -1,12 +1,16 @@
 // Document 01's evening and the replay of a journal for callers in C and Rust: numbers and lent slices alone. include/micro_price.h says how they are called.
 // They are apart from `exports`, so that the counting of a quote has one caller in each archive and is compiled into it.
+use calibrator::Record;
 use encoding::BAD_ENCODING;
 use evening::Evening;
 use replay::Replayed;
 ghost use mathlib.Core.Path.{_≡_};
+ghost use mathlib.Core.List.{[]};
+ghost use lib.ListN.{length};
 ghost use Rattle.basics.specs.Loan.{given, final};
+ghost use Rattle.calibrator.specs.Record.{memory};
 ghost use Rattle.encoding.specs.Encoding.{lent};
-ghost use Rattle.exports_batch.specs.Batch.{lentEvening, eveningNumber, invalidAfter, calibrateWords, lentReplay, replayedNumber, PromisedWords};
+ghost use Rattle.exports_batch.specs.Batch.{lentEvening, eveningNumber, invalidAfter, hasCounted, recordAfterEvening, calibrateWords, lentReplay, PromisedWords};
 
 // An evening's answer as a number; with a fit's answer the number of invalid quotes is written.
 fn put_invalid(answer: Evening, invalid: &mut u64) -> u64
@@ -22,7 +26,31 @@ fn put_invalid(answer: Evening, invalid: &mut u64) -> u64
     }
 }
 
-// Counts the quotes of the window from new, and fits the counts. At 0 and at 16 to 19 invalid is the number of invalid quotes.
+// Whether quotes were counted: there is a fit's answer, or a quote stopped the count.
+fn has_counted(answer: Evening) -> bool
+    ensures { λ b. ⌜ b ≡ hasCounted answer ⌝ }
+{
+    match answer {
+        Evening::Fitted(_) => true,
+        Evening::Refused(r) => {
+            let n = refusals::number_of(r);
+            (n == 2) | (n == 6)
+        }
+    }
+}
+
+// Writes the record where quotes were counted. Its caller has ten words.
+fn put_counted(rec: &mut [u64], answer: Evening, next: Record)
+    requires { ⌜ length (now rec) ≡ 10 ⌝ }
+    ensures { λ _. ⌜ final rec ≡ recordAfterEvening answer (given rec) (memory next [] [] []) ⌝ }
+{
+    if has_counted(answer) {
+        encoding::put_record(rec, next);
+    }
+}
+
+// Counts the quotes of the window from new, and fits the counts. At 0 and at 16 to 19 invalid is the number of invalid quotes. The record may be any ten words;
+// it is written at 0, 2, 6 and 16 to 19.
 #[no_mangle]
 pub extern "C" fn micro_price_calibrate(
     config: &[u64],
@@ -40,7 +68,7 @@ pub extern "C" fn micro_price_calibrate(
     ensures { λ n. ⌜ lentEvening n (final rec) (final stay) (final moved) (final «move_half_ticks») (final model) (final scratch) (final invalid)
         ≡ calibrateWords (given config) (given rec) (given stay) (given moved) (given «move_half_ticks») (given recording) start end (given model) (given scratch) (given invalid) ⌝ }
 {
-    if !encoding::is_encoded(config, rec) {
+    if !encoding::five_and_ten(config, rec) {
         return BAD_ENCODING;
     }
     let done = evening::inner::calibrate_micro_price(
@@ -55,18 +83,9 @@ pub extern "C" fn micro_price_calibrate(
         scratch,
         model,
     );
-    encoding::put_record(rec, done.next);
     let answer = done.answer;
+    put_counted(rec, answer, done.next);
     put_invalid(answer, invalid)
-}
-
-fn replayed_number(r: Replayed) -> u64
-    ensures { λ n. ⌜ n ≡ replayedNumber r ⌝ }
-{
-    match r {
-        Replayed::Done => 0,
-        Replayed::BadEncoding => BAD_ENCODING,
-    }
 }
 
 // Runs an encoded list of calls and writes each one's answer.
@@ -99,6 +118,11 @@ pub extern "C" fn micro_price_replay(
         answers,
     );
     let answer = ran.answer;
-    encoding::put_record(rec, ran.next);
-    replayed_number(answer)
+    match answer {
+        Replayed::BadEncoding => BAD_ENCODING,
+        Replayed::Done => {
+            encoding::put_record(rec, ran.next);
+            0
+        }
+    }
 }

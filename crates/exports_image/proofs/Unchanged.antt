@@ -1,19 +1,17 @@
--- An exported operation on images that answers another number than 0 leaves all lent memory as it was.
+-- An exported operation on images that answers another number than 0 leaves all lent memory as it was, whatever it holds.
 use Prim.Native.Nat.{ℕ}
 use mathlib.Core.Path.{_≡_, refl}
 use mathlib.Core.Bool.{Bool, true, false, cond}
 use mathlib.Core.List.{List}
 use lib.IntN.{ℤ}
 use lib.ListN.{length}
-use Rattle.refusals.specs.Refusals.{numberOf}
 use Rattle.refusals.specs.declared.Check.{Check}
 use Rattle.refusals.specs.declared.Check.the-variants.{Fine, Refused}
 use Rattle.tally.specs.Entries.{tables}
 use Rattle.calibrator.specs.Record.{memory}
 use Rattle.layout.specs.Layout.{image}
 use Rattle.image.specs.Image.{saveRefusal, savedUnless, restoreRefusal, takenUnless}
-use Rattle.encoding.specs.Encoding.{configOf, recordOf, isRecord, encoded, badEncoding, lent}
-use Rattle.encoding.proofs.Laws.{words-back, encoded-known}
+use Rattle.encoding.specs.Encoding.{configOf, recordOf, fiveAndTen, encoded, badEncoding, lent}
 use Rattle.exports_image.specs.Images.{lentOut, ofSaved, saveWords, lentBack, ofTaken, restoreWords}
 
 save-kept : (b : Bool) (k : Check) (out written : List ℕ) → let x = cond b (ofSaved (savedUnless k out written)) (lentOut badEncoding out) in
@@ -23,17 +21,14 @@ save-kept true Fine out written h = absurd (h refl)
 save-kept true (Refused r) out written h = refl
 
 module _ (w s m : List ℕ) (t : List ℤ) where
-  restore-kept : (c b : List ℕ) (i : Bool) → (i ≡ true → isRecord w ≡ true) → (k : Check)
-      → let x = cond i (ofTaken (takenUnless k b (memory (recordOf w) s m t)) c) (lentBack c (lent badEncoding w s m t)) in
+  restore-kept : (c b : List ℕ) (i : Bool) (k : Check)
+      → let x = cond i (ofTaken c w (takenUnless k b (memory (recordOf w) s m t))) (lentBack c (lent badEncoding w s m t)) in
       (x .rest .answer ≡ 0 → ⊥) → x ≡ lentBack c (lent (x .rest .answer) w s m t)
-  restore-kept c b false e k h = refl
-  restore-kept c b true e Fine h = absurd (h refl)
-  restore-kept c b true e (Refused r) h = λ j. lentBack c (lent (numberOf r) (words-back w (e refl) s m t j) s m t)
+  restore-kept c b false k h = refl
+  restore-kept c b true Fine h = absurd (h refl)
+  restore-kept c b true (Refused r) h = refl
 
 module _ (c w s m : List ℕ) (t : List ℤ) where
-  known : encoded c w ≡ true → isRecord w ≡ true
-  known e = encoded-known c w e .1
-
   pub save-unchanged : (out : List ℕ) → (saveWords c w s m t out .answer ≡ 0 → ⊥) → saveWords c w s m t out ≡ lentOut (saveWords c w s m t out .answer) out
   save-unchanged out =
       let before = memory (recordOf w) s m t in
@@ -41,4 +36,4 @@ module _ (c w s m : List ℕ) (t : List ℤ) where
 
   pub restore-unchanged : (b : List ℕ) → (restoreWords b c w s m t .rest .answer ≡ 0 → ⊥)
       → restoreWords b c w s m t ≡ lentBack c (lent (restoreWords b c w s m t .rest .answer) w s m t)
-  restore-unchanged b = restore-kept w s m t c b (encoded c w) known (restoreRefusal b (tables s m t))
+  restore-unchanged b = restore-kept w s m t c b (fiveAndTen c w) (restoreRefusal b (tables s m t))

@@ -1,5 +1,6 @@
 // Document 01's save and restore for callers in C and Rust: numbers and lent slices alone. include/micro_price.h says how they are called.
-// Words that are no configuration or no record are answered with BAD_ENCODING before all else. Every other answer is 0 or the number of a refusal.
+// Words that are no configuration or no record are answered with BAD_ENCODING before all else, but restore takes any five and any ten words for those that it
+// overwrites. Every other answer is 0 or the number of a refusal.
 use encoding::BAD_ENCODING;
 use image::Restored;
 ghost use mathlib.Core.Path.{_≡_};
@@ -33,7 +34,7 @@ pub extern "C" fn micro_price_save(
     refusals::check_number(answer)
 }
 
-// Takes an image back: fills the configuration, the record and the tables.
+// Takes an image back: fills the configuration, the record and the tables. A refusal writes nothing.
 #[no_mangle]
 pub extern "C" fn micro_price_restore(
     image: &[u8],
@@ -46,15 +47,15 @@ pub extern "C" fn micro_price_restore(
     ensures { λ n. ⌜ lentBack (final config) (lent n (final rec) (final stay) (final moved) (final «move_half_ticks»))
         ≡ restoreWords (given image) (given config) (given rec) (given stay) (given moved) (given «move_half_ticks») ⌝ }
 {
-    if !encoding::is_encoded(config, rec) {
+    if !encoding::five_and_ten(config, rec) {
         return BAD_ENCODING;
     }
     let before = encoding::record_of(rec);
     let taken = image::inner::restore(before, image, stay, moved, move_half_ticks);
     let answer = taken.answer;
-    encoding::put_record(rec, taken.next);
     match answer {
         Restored::Config(c) => {
+            encoding::put_record(rec, taken.next);
             encoding::put_config(config, c);
             0
         }

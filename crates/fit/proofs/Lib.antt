@@ -3,3 +3,7 @@ pub mod Ends
 pub mod Known
 pub mod Opposites
 pub mod Models
+pub mod MoreRounds
+pub mod NeverConverges
+pub mod ThirtyNineRounds
+pub mod Fitted

@@ -42,10 +42,12 @@ use Rattle.marking.specs.Below.{someTo}
 use Rattle.marking.specs.Marks.{Cells}
 use Rattle.marking.proofs.Below.{some-not}
 use Rattle.linear.specs.Arithmetic.{rounded}
-use Rattle.linear.specs.Elimination.{Answer, solved, singular, gaussJordan}
+use Rattle.linear.specs.Elimination.{Answer, solved, singular, matrixOf, gaussJordan}
+use Rattle.linear.proofs.Fits.{NumbersFit, CellsFit}
 use Rattle.series.specs.Series.{Series, converged, notConverged, sumSeries, shareAfter, fallbackWithinMoves}
 use Rattle.system.specs.Rows.{used, systemOf}
 use Rattle.system.specs.Solution.{Solution, solution, unsolved, summedUp, solutionFrom, solutionOf}
+use Rattle.system.proofs.Fits.{system-solved-fits}
 use Rattle.estimates.specs.Estimates.{Given, estimate, representable}
 use Rattle.fit.specs.Fit.{Fit, fitted, refused, judgedRows, fitFrom, fitOf, givenOf, fitRefusal, tableOf, answerOf, fitUnless, fittedWith}
 use Rattle.fit.specs.Models.{RowsOpposite, Inside, RowOf, Written}
@@ -72,22 +74,29 @@ clamp-fits x h =
     cond-fits binary64 (lt x posZero) posZero (cond (lt one x) one x) (ofBits-fits binary64 0)
     (cond-fits binary64 (lt one x) one x (ofBits-fits binary64 0x3ff0_0000_0000_0000) h)
 
-share-clamped : (n : ℕ) (B : ℕ → ℕ → Float) (F : ℕ → Float) (moves i : ℕ) → Clamped (fallbackWithinMoves rounded n B F (suc moves) i)
-share-clamped n B F moves i =
-    record { of = shareAfter rounded n B F (suc moves) i; is = refl; fit = clamp-fits _ (unfold shareAfter in add-fits binary64 (F i) _) }
+-- with no round the share is F, with more a sum
+share-fits : (n : ℕ) (B : ℕ → ℕ → Float) (F : ℕ → Float) → NumbersFit F → (moves : ℕ) → NumbersFit (shareAfter rounded n B F moves)
+unfolding shareAfter
+share-fits n B F h zero i = h i
+share-fits n B F h (suc moves) i = add-fits binary64 (F i) _
+
+share-clamped : (n : ℕ) (B : ℕ → ℕ → Float) (F : ℕ → Float) → NumbersFit F → (moves i : ℕ) → Clamped (fallbackWithinMoves rounded n B F moves i)
+share-clamped n B F h moves i = record { of = shareAfter rounded n B F moves i; is = refl; fit = clamp-fits _ (share-fits n B F h moves i) }
 
 summed-kept : (G1 share : ℕ → Float) (s : Series Float) → ((i : ℕ) → Clamped (share i)) → Kept (summedUp G1 share s)
 summed-kept G1 share (converged sum term) h = h
 summed-kept G1 share (notConverged sum term) h = (omega arith, omega arith)
 
-solution-kept : (rounds moves : ℕ) (C : Cells) (total : ℕ → ℤ) → Kept (solutionOf rounds (suc moves) C total)
+solution-kept : (rounds moves : ℕ) (C : Cells) (total : ℕ → ℤ) → Kept (solutionOf rounds moves C total)
 unfolding solutionOf
-solution-kept rounds moves C total = go (gaussJordan rounded (C .states) (systemOf C total))
+solution-kept rounds moves C total = go (gaussJordan rounded (C .states) (systemOf C total)) (system-solved-fits C total)
   where
-    go : (a : Answer Float) → Kept (solutionFrom (C .states) rounds (suc moves) a)
-    go (singular A) = (omega arith, omega arith)
-    go (solved A) = summed-kept (λ i. A i (C .states)) _ (sumSeries rounded (C .states) (λ i j. A i (C .states + 2 + j)) (λ i. A i (C .states)) rounds)
-        (λ i. share-clamped (C .states) (λ i j. A i (C .states + 2 + j)) (λ i. A i (C .states + 1)) moves i)
+    go : (a : Answer Float) → CellsFit (matrixOf a) → Kept (solutionFrom (C .states) rounds moves a)
+    go (singular A) h = (omega arith, omega arith)
+    go (solved A) h =
+        let B : ℕ → ℕ → Float = λ i j. A i (C .states + 2 + j) in
+        summed-kept (λ i. A i (C .states)) _ (sumSeries rounded (C .states) B (λ i. A i (C .states)) rounds)
+        (share-clamped (C .states) B (λ i. A i (C .states + 1)) (λ i. h i (C .states + 1)) moves)
 
 -- ---- the fit
 
@@ -128,10 +137,10 @@ judged-ended G G1 sum share h = go (someTo N (λ i. not (representable (rows i))
         }
     go false e false = (omega arith, omega arith)
 
-fit-ended : (rounds moves : ℕ) (G : Given) → Ended G (fitOf rounds (suc moves) G)
+fit-ended : (rounds moves : ℕ) (G : Given) → Ended G (fitOf rounds moves G)
 unfolding fitOf
 fit-ended rounds moves G =
-    go (someTo (G .cells .states) (used (G .cells))) (solutionOf rounds (suc moves) (G .cells) (G .total)) (solution-kept rounds moves (G .cells) (G .total))
+    go (someTo (G .cells .states) (used (G .cells))) (solutionOf rounds moves (G .cells) (G .total)) (solution-kept rounds moves (G .cells) (G .total))
   where
     go : (u : Bool) (s : Solution) → Kept s → Ended G (cond u (fitFrom G s) (refused 16))
     go true (solution G1 sum share) k = judged-ended G G1 sum share k
@@ -189,18 +198,18 @@ inside-of c i (fin s m d) w f h =
       inside = rw (mul-comm 2 (m * up d)) (values-le (fin false m d) (half width) (m * up d) (down d) width 2 (refl, refl) (half-exact width w) h);
     }
 
--- a fit with any number of rounds, of the share at least one
+-- a fit with any number of rounds, of the series and of the share
 module _ (rounds moves : ℕ) (c : MicroPriceConfig) (m : Memory Previous) (t₀ : List ℕ) (l : List Float) where
   abbrev G : Given
   G = givenOf c (m .counts)
 
   abbrev fit : Fit
-  fit = fitOf rounds (suc moves) G
+  fit = fitOf rounds moves G
 
   abbrev table : List ℕ
-  table = fittedWith rounds (suc moves) c m t₀ l .model
+  table = fittedWith rounds moves c m t₀ l .model
 
-  module _ (fine : fittedWith rounds (suc moves) c m t₀ l .answer ≡ Fine) where
+  module _ (fine : fittedWith rounds moves c m t₀ l .answer ≡ Fine) where
     parts : (fitRefusal c m (length l) (length t₀) ≡ Fine) × (answerOf fit ≡ Fine)
     parts = fine-parts (fitRefusal c m (length l) (length t₀)) (states c) fit t₀ l fine
 
@@ -281,7 +290,7 @@ module _ (rounds moves : ℕ) (c : MicroPriceConfig) (m : Memory Previous) (t₀
         (subst (λ (x : Float). T (le x (half width))) (sym (ap (λ (x : StateEstimate). abs (x .adjustment)) e ∙ abs-plus (rows i .adjustment))) k)
 
   -- refused after the checks: 16 to 19
-  pub fit-numbers : (r : Refusal) → fitRefusal c m (length l) (length t₀) ≡ Fine → fittedWith rounds (suc moves) c m t₀ l .answer ≡ Refused r
+  pub fit-numbers : (r : Refusal) → fitRefusal c m (length l) (length t₀) ≡ Fine → fittedWith rounds moves c m t₀ l .answer ≡ Refused r
       → (16 ≤ numberOf r) × (numberOf r ≤ 19)
   fit-numbers r k e = go fit (fit-ended rounds moves G) (ap (λ (x : Check). fitUnless x (states c) fit t₀ l .answer) (sym k) ∙ e)
     where

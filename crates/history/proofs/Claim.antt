@@ -2,11 +2,10 @@
 use Prim.Native.Nat.{ℕ}
 use mathlib.Core.Path.{_≡_, refl, sym, ap, subst, _∙_}
 use mathlib.Core.Bool.{Bool, true, false, not, _&&_, _||_}
-use mathlib.Core.List.{List, [], _∷_}
+use mathlib.Core.List.{List, [], _∷_, _++_}
 use mathlib.Core.Option.{Option, none, some}
 use lib.Dec.{T}
 use lib.ListN.{length}
-use Rattle.basics.proofs.Tests.{zero-not-one}
 use Rattle.refusals.specs.Refusals.{refuseIf, firstOf}
 use Rattle.refusals.specs.declared.Check.{Check}
 use Rattle.refusals.specs.declared.Check.the-variants.{Fine, Refused}
@@ -34,6 +33,17 @@ use Rattle.image.specs.declared.Restored.{Restored}
 use Rattle.image.specs.declared.Restored.the-variants as Restored
 use Rattle.history.specs.Calls.{Call, quote, save, restore, observes, saves, restores, Acted, acted, afterRestore, act, run, History, newHistory, gains, historyMemory, historyRefusal, Kept, Past, newPast, orElse, keptWith, Told, told, tellQuote, tellSave, tellRestore, wrongRoom, tell, story, isSome, isRefused, Proper, OwnImages, ConfigWords}
 use Rattle.history.proofs.Holds.{Holds, new-holds, step-holds, quote-first, save-first, image-back}
+
+-- the history kept, if any, has the property
+abbrev IfKept : (History → Type 0) → Option History → Type 0
+IfKept Q none = Unit {0}
+IfKept Q (some H) = Q H
+
+-- of a newer history and an older one, whichever is taken
+either-kept : (Q : History → Type 0) (t : Bool) (G : History) (o : Option History) → (t ≡ true → Q G) → IfKept Q o → IfKept Q (orElse t G o)
+either-kept Q true G none newer older = newer refl
+either-kept Q true G (some K) newer older = let this : Q G = newer refl in search
+either-kept Q false G o newer older = older
 
 module _ (c : MicroPriceConfig) (e : valid c ≡ true) (fits : ConfigWords c) where
   v : Valid c
@@ -119,19 +129,16 @@ module _ (c : MicroPriceConfig) (e : valid c ≡ true) (fits : ConfigWords c) wh
 
   -- ---- a restore
 
-  record Returns (b : List ℕ) (H : History) : Type 0 where
+  record IsImage (b : List ℕ) (H : History) : Type 0 where
     sound : Sound H
     is : b ≡ image c (historyMemory c H)
 
-  kept-is : (b : List ℕ) (ks : List Kept) (H : History) → AllKept ks → keptWith b ks ≡ some H → Returns b H
-  kept-is b [] H a f = absurd (zero-not-one cc)
-  kept-is b (k ∷ ks) H a f = go (λ g. kept-is b ks H (a .2) g) (sameWords b (k .bytes)) refl f
-    where
-      go : (keptWith b ks ≡ some H → Returns b H) → (t : Bool) → sameWords b (k .bytes) ≡ t → orElse t (k .history) (keptWith b ks) ≡ some H → Returns b H
-      go later true p g =
-          let is : k .history ≡ H = cc in
-          subst (Returns b) is (record { sound = a .1; is = same-equal b (k .bytes) p ∙ a .0 })
-      go later false p g = later g
+  kept-is : (b : List ℕ) (ks : List Kept) → AllKept ks → IfKept (IsImage b) (keptWith b ks)
+  kept-is b [] a = tt
+  kept-is b (k ∷ ks) a =
+      either-kept (IsImage b) (sameWords b (k .bytes)) (k .history) (keptWith b ks)
+      (λ same. record { sound = a .1; is = same-equal b (k .bytes) same ∙ a .0 })
+      (kept-is b ks (a .2))
 
   restore-agrees : (P : Past) → Good P → (b : List ℕ) (lent : Memory Previous) → Proper c P (restore b lent)
       → Agrees (act c (historyMemory c (P .now)) (restore b lent)) (tell c P (restore b lent))
@@ -150,7 +157,7 @@ module _ (c : MicroPriceConfig) (e : valid c ≡ true) (fits : ConfigWords c) wh
       go t et true ew o eo f = other (t .answer) (t .left) f
       go t et false ew none eo f = other (t .answer) (t .left) f
       go t et false ew (some H) eo f =
-          let r = kept-is b (P .kept) H (G .all-kept) eo in
+          let r : IsImage b H = subst (IfKept (IsImage b)) eo (kept-is b (P .kept) (G .all-kept)) in
           let back : t ≡ endRestore (Restored.Config c) (historyMemory c H) =
           sym et ∙ ap (λ (x : List ℕ). restored x lent) (r .is) ∙ image-back c e fits (historyMemory c H) (r .sound) lent ew in
           rw back
@@ -192,32 +199,45 @@ module _ (c : MicroPriceConfig) (e : valid c ≡ true) (fits : ConfigWords c) wh
         counts = after-none (rule c .kinds) (states c) (rule c .mirror) (fresh c .counts) (new-holds c v .sized) i;
       }
 
+  new-good : Good (newPast c)
+  new-good = record { now-sound = subst (Holds c) (sym empty-is) (new-holds c v); all-kept = tt }
+
   -- every list of calls on a new calibrator
   pub list-claim : (ks : List Call) → OwnImages c (newPast c) ks → Claim (newPast c) ks
-  list-claim ks o =
-      from-here ks (newPast c)
-      (record { now-sound = subst (Holds c) (sym empty-is) (new-holds c v); all-kept = tt })
-      o
+  list-claim ks o = from-here ks (newPast c) new-good o
 
--- every history of the list starts at new's counts
-abbrev AllNew : MicroPriceConfig → List Kept → Type 0
-AllNew c [] = Unit {0}
-AllNew c (k ∷ ks) = (k .history .start ≡ fresh c .counts) × AllNew c ks
+  -- ---- a list in parts
+
+  good-after : (ks : List Call) (P : Past) → Good P → OwnImages c P ks → Good (story c P ks .past)
+  good-after [] P G o = G
+  good-after (k ∷ ks) P G o = good-after ks (tell c P k .past) (call-agrees P G k (o .0) .good) (o .1)
+
+  pub own-parts : (before ks : List Call) (P : Past) → OwnImages c P (before ++ ks) → OwnImages c P before × OwnImages c (story c P before .past) ks
+  own-parts [] ks P o = (tt, o)
+  own-parts (k ∷ before) ks P o = let r = own-parts before ks (tell c P k .past) (o .1) in ((o .0, r .0), r .1)
+
+  -- a list after another
+  pub part-claim : (before ks : List Call) → OwnImages c (newPast c) (before ++ ks) → Claim (story c (newPast c) before .past) ks
+  part-claim before ks o =
+      let p = own-parts before ks (newPast c) o in
+      from-here ks (story c (newPast c) before .past) (good-after before (newPast c) new-good (p .0)) (p .1)
 
 module _ (c : MicroPriceConfig) where
-  record New (P : Past) : Type 0 where
-    now-new : P .now .start ≡ fresh c .counts
-    kept-new : AllNew c (P .kept)
+  -- it starts at new's counts
+  abbrev StartsNew : History → Type 0
+  StartsNew H = H .start ≡ fresh c .counts
 
-  found-new : (b : List ℕ) (ks : List Kept) (H : History) → AllNew c ks → keptWith b ks ≡ some H → H .start ≡ fresh c .counts
-  found-new b [] H a f = absurd (zero-not-one cc)
-  found-new b (k ∷ ks) H a f = go (λ g. found-new b ks H (a .1) g) (sameWords b (k .bytes)) f
-    where
-      go : (keptWith b ks ≡ some H → H .start ≡ fresh c .counts) → (t : Bool) → orElse t (k .history) (keptWith b ks) ≡ some H → H .start ≡ fresh c .counts
-      go later true g =
-          let is : k .history ≡ H = cc in
-          subst (λ (x : History). x .start ≡ fresh c .counts) is (a .0)
-      go later false g = later g
+  abbrev AllNew : List Kept → Type 0
+  AllNew [] = Unit {0}
+  AllNew (k ∷ ks) = StartsNew (k .history) × AllNew ks
+
+  record New (P : Past) : Type 0 where
+    now-new : StartsNew (P .now)
+    kept-new : AllNew (P .kept)
+
+  found-new : (b : List ℕ) (ks : List Kept) → AllNew ks → IfKept StartsNew (keptWith b ks)
+  found-new b [] a = tt
+  found-new b (k ∷ ks) a = either-kept StartsNew (sameWords b (k .bytes)) (k .history) (keptWith b ks) (λ same. a .0) (found-new b ks (a .1))
 
   tell-new : (P : Past) → New P → (k : Call) → New (tell c P k .past)
   tell-new P n (quote q) = go (historyRefusal c (P .now) q)
@@ -235,9 +255,9 @@ module _ (c : MicroPriceConfig) where
       go : (w : Bool) (o : Option History) → keptWith b (P .kept) ≡ o → New (tellRestore c P (restored b lent .answer) w o .past)
       go true o f = n
       go false none f = n
-      go false (some H) f = record { now-new = found-new b (P .kept) H (n .kept-new) f; kept-new = n .kept-new }
+      go false (some H) f = record { now-new = subst (IfKept StartsNew) f (found-new b (P .kept) (n .kept-new)); kept-new = n .kept-new }
 
-  all-new : (ks : List Call) (P : Past) → New P → story c P ks .past .now .start ≡ fresh c .counts
+  all-new : (ks : List Call) (P : Past) → New P → StartsNew (story c P ks .past .now)
   all-new [] P n = n .now-new
   all-new (k ∷ ks) P n = all-new ks (tell c P k .past) (tell-new P n k)
 

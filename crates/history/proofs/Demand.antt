@@ -1,13 +1,13 @@
 -- Demand 3: the list claim with its consequences, for every valid configuration and every list in which only its own images are taken back.
 use Prim.Native.Nat.{ℕ, _+_, _*_, _-_, _<_, max}
 use mathlib.Core.Path.{_≡_, refl, sym, ap, subst, _∙_}
-use mathlib.Core.Bool.{true}
-use mathlib.Core.List.{List}
+use mathlib.Core.Bool.{true, false}
+use mathlib.Core.List.{List, [], _∷_, _++_, append-assoc}
 use native.Mathlib.Nat.{zero-add}
 use native.Mathlib.Omega.{arith}
 use lib.IntN.{ℤ, pos, _+ℤ_, +ℤ-idl}
 use lib.ListN.{length, getD, getD-replicate}
-use Rattle.basics.specs.Lists.{count, greatest, sum, tab}
+use Rattle.basics.specs.Lists.{any, count, greatest, sum, tab}
 use Rattle.basics.proofs.Lists.{getD-tab, getD-square, flat-below, tab-ext}
 use Rattle.refusals.specs.declared.Check.{Check}
 use Rattle.refusals.specs.declared.Check.the-variants.{Fine, Refused}
@@ -15,23 +15,33 @@ use Rattle.config.specs.Configuration.{states, valid}
 use Rattle.config.specs.Known.{Valid}
 use Rattle.config.specs.declared.MicroPriceConfig.{MicroPriceConfig}
 use Rattle.config.proofs.Known.{valid-known}
+use Rattle.quotes.specs.declared.TopOfBook.{TopOfBook}
 use Rattle.tally.specs.Events.{stayAt, movedAt, totalAt, isPair, isSkip, sizeOf}
-use Rattle.tally.specs.Rules.{Memory, step}
+use Rattle.tally.specs.Rules.{Memory, step, carried}
 use Rattle.tally.proofs.Balance.{neighbours-counted}
 use Rattle.calibrator.specs.Record.{answered}
 use Rattle.calibrator.specs.Observe.{rule, fresh, observed, judge, refusalBy}
 use Rattle.calibrator.specs.declared.Previous.{Previous}
-use Rattle.calibrator.specs.declared.Previous.the-variants.{Nothing}
+use Rattle.calibrator.specs.declared.Previous.the-variants.{Nothing, Quoted}
 use Rattle.calibrator.proofs.Step.{rule-lawful}
 use Rattle.image.specs.Image.{saved}
-use Rattle.history.specs.Calls.{Call, run, History, historyMemory, newPast, OwnImages, ConfigWords}
-use Rattle.history.specs.Demand.{left, historyOf, neighboursIn, flow, Demand3}
+use Rattle.history.specs.Calls.{Call, save, restore, run, History, historyMemory, Past, newPast, tell, story, OwnImages, ConfigWords}
+use Rattle.history.specs.Demand.{left, historyOf, neighboursIn, flow, lastOf, wrote, Demand3}
 use Rattle.history.proofs.Holds.{save-image}
-use Rattle.history.proofs.Claim.{list-claim, empty-is, refusal-is, starts-new}
+use Rattle.history.proofs.Claim.{list-claim, own-parts, part-claim, empty-is, refusal-is, starts-new}
+use Rattle.history.proofs.Returns.{story-append, returns-to-save}
 
 answer-is : (k : Check) (m n : Memory Previous) → answered k m n .answer ≡ k
 answer-is Fine m n = refl
 answer-is (Refused r) m n = refl
+
+last-carried : (c : MicroPriceConfig) (q : TopOfBook) (qs : List TopOfBook) → carried (rule c) (Quoted q) qs ≡ lastOf (q ∷ qs)
+last-carried c q [] = refl
+last-carried c q (r ∷ qs) = last-carried c r qs
+
+last-of : (c : MicroPriceConfig) (qs : List TopOfBook) → carried (rule c) Nothing qs ≡ lastOf qs
+last-of c [] = refl
+last-of c (q ∷ qs) = last-carried c q qs
 
 module _ (c : MicroPriceConfig) (e : valid c ≡ true) (fits : ConfigWords c) where
   v : Valid c
@@ -83,17 +93,50 @@ module _ (c : MicroPriceConfig) (e : valid c ≡ true) (fits : ConfigWords c) wh
     neighbours-of =
         (λ i. pairs-of i + sum (skips-of i)) ∙ neighbours-counted (rule c) (rule-lawful c v) Nothing (H .quotes) refl
 
+  -- what the operations leave after a list
+  left-after : (ks : List Call) → OwnImages c (newPast c) ks → left c ks ≡ historyMemory c (historyOf c ks)
+  left-after ks o = ap (λ (x : Memory Previous). run c x ks .left) (sym (empty-is c e fits)) ∙ list-claim c e fits ks o .memories
+
+  -- and what they answer to a list after another
+  answers-after : (before ks : List Call) → OwnImages c (newPast c) (before ++ ks)
+      → run c (left c before) ks .answers ≡ story c (story c (newPast c) before .past) ks .answers
+  answers-after before ks o =
+      ap (λ (x : Memory Previous). run c x ks .answers) (left-after before (own-parts c e fits before ks (newPast c) o .0))
+      ∙ part-claim c e fits before ks o .answers
+
+  -- a list that ends in a save, other calls and a restore of what the save wrote
+  module _ (before : List Call) (out : List ℕ) (js : List Call) (b : List ℕ) (lent : Memory Previous) where
+    abbrev to-save : List Call
+    to-save = before ++ (save out ∷ [])
+
+    abbrev to-restore : List Call
+    to-restore = before ++ (save out ∷ (js ++ (restore b lent ∷ [])))
+
+    three-parts : (to-save ++ js) ++ (restore b lent ∷ []) ≡ to-restore
+    three-parts = append-assoc to-save js (restore b lent ∷ []) ∙ append-assoc before (save out ∷ []) (js ++ (restore b lent ∷ []))
+
+    -- what the operations answer in between is what the history says
+    others-told : OwnImages c (newPast c) to-restore → any (wrote b) (run c (left c to-save) js .answers) ≡ false
+        → any (wrote b) (story c (tell c (story c (newPast c) before .past) (save out) .past) js .answers) ≡ false
+    others-told o others =
+        let own = own-parts c e fits (to-save ++ js) (restore b lent ∷ []) (newPast c) (subst (OwnImages c (newPast c)) (sym three-parts) o) .0 in
+        ap (λ (x : Past). any (wrote b) (story c x js .answers)) (sym (story-append c before (save out ∷ []) (newPast c)))
+        ∙ ap (any (wrote b)) (sym (answers-after to-save js own))
+        ∙ others
+
   -- demand 3
   pub demand-3 : (ks : List Call) → OwnImages c (newPast c) ks → Demand3 c ks
   demand-3 ks o =
       let claim = list-claim c e fits ks o in
       let H = historyOf c ks in
       let new : H .start ≡ fresh c .counts = starts-new c ks in
-      let m : left c ks ≡ historyMemory c H = ap (λ (x : Memory Previous). run c x ks .left) (sym (empty-is c e fits)) ∙ claim .memories in
+      let m : left c ks ≡ historyMemory c H = left-after ks o in
       record {
         answers =
             ap (λ (x : Memory Previous). run c x ks .answers) (sym (empty-is c e fits)) ∙ claim .answers;
         memory = m;
+        start-is = new;
+        last-is = ap (λ (x : Memory Previous). x .last) m ∙ last-of c (H .quotes);
         stay-is = λ i j hi hj. ap (λ (x : Memory Previous). getD (x .counts .tables .stay) (i * states c + j) 0) m ∙ stay-of H new i j hi hj;
         moved-is = λ i j hi hj. ap (λ (x : Memory Previous). getD (x .counts .tables .moved) (i * states c + j) 0) m ∙ moved-of H new i j hi hj;
         total-is = λ i hi. ap (λ (x : Memory Previous). getD (x .counts .tables .totals) i (pos 0)) m ∙ total-of H new i hi;
@@ -111,4 +154,10 @@ module _ (c : MicroPriceConfig) (e : valid c ≡ true) (fits : ConfigWords c) wh
         save-fine =
             λ out long.
             ap (λ (x : Memory Previous). saved c x out) m ∙ save-image c e (historyMemory c H) (claim .holds) out long;
+        restore-returns =
+            λ before out js b lent is long written others sizes.
+            ap (historyOf c) is
+            ∙ ap (λ (x : Past). x .now) (story-append c before (save out ∷ (js ++ (restore b lent ∷ []))) (newPast c))
+            ∙ returns-to-save c b (story c (newPast c) before .past) out js lent long written
+            (others-told before out js b lent (subst (OwnImages c (newPast c)) is o) others) sizes;
       }

@@ -1,4 +1,6 @@
 pub mod Holds
 pub mod Restored
 pub mod Claim
+pub mod Returns
 pub mod Demand
+pub mod LastKept

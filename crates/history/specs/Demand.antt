@@ -1,10 +1,11 @@
 -- Demand 3, of one configuration and one list of calls: document 01, "The history".
 use Prim.Native.Nat.{ℕ, _+_, _*_, _-_, _<_}
 use mathlib.Core.Path.{_≡_}
-use mathlib.Core.List.{List}
+use mathlib.Core.Bool.{Bool, false, not, _&&_}
+use mathlib.Core.List.{List, [], _∷_, _++_}
 use lib.IntN.{pos}
 use lib.ListN.{length, getD}
-use Rattle.basics.specs.Lists.{count, greatest, sum, tab}
+use Rattle.basics.specs.Lists.{any, count, greatest, sum, tab}
 use Rattle.refusals.specs.declared.Check.the-variants.{Fine}
 use Rattle.config.specs.Configuration.{states}
 use Rattle.config.specs.declared.MicroPriceConfig.{MicroPriceConfig}
@@ -14,12 +15,12 @@ use Rattle.tally.specs.Entries.{Entry}
 use Rattle.tally.specs.Events.{Event, entries, stayAt, movedAt, totalAt, isPair, isSkip, sizeOf}
 use Rattle.tally.specs.Rules.{Memory, events}
 use Rattle.tally.specs.Balance.{Balanced}
-use Rattle.calibrator.specs.Observe.{rule, fresh, observed}
+use Rattle.calibrator.specs.Observe.{rule, fresh, observed, refuses}
 use Rattle.calibrator.specs.declared.Previous.{Previous}
-use Rattle.calibrator.specs.declared.Previous.the-variants.{Nothing}
-use Rattle.layout.specs.Layout.{imageLength, image}
-use Rattle.image.specs.Image.{saved, endSave}
-use Rattle.history.specs.Calls.{Call, run, History, historyMemory, historyRefusal, newPast, story}
+use Rattle.calibrator.specs.declared.Previous.the-variants.{Nothing, Quoted}
+use Rattle.layout.specs.Layout.{imageLength, image, sameWords}
+use Rattle.image.specs.Image.{saved, endSave, lentWrong}
+use Rattle.history.specs.Calls.{Call, save, restore, Answer, observes, saves, restores, run, History, historyMemory, historyRefusal, newPast, story}
 
 -- what the operations leave after the list, and the history after it
 abbrev pub left : MicroPriceConfig → List Call → Memory Previous
@@ -35,10 +36,25 @@ neighboursIn c H = events (rule c) Nothing (H .quotes)
 abbrev pub flow : MicroPriceConfig → History → List Entry
 flow c H = entries (rule c .mirror) (neighboursIn c H)
 
+-- the last quote of a list, if any
+abbrev pub lastOf : List TopOfBook → Previous
+lastOf [] = Nothing
+lastOf (q ∷ []) = Quoted q
+lastOf (q ∷ r ∷ qs) = lastOf (r ∷ qs)
+
+-- whether a call was a save that was not refused and wrote these bytes
+abbrev pub wrote : List ℕ → Answer → Bool
+wrote b (observes k) = false
+wrote b (saves s) = not (refuses (s .answer)) && sameWords b (s .output)
+wrote b (restores r) = false
+
 pub record Demand3 (c : MicroPriceConfig) (ks : List Call) : Type 0 where
   -- every answer and saved image, and after the list the record and tables, are the history's
   pub answers : run c (fresh c) ks .answers ≡ story c (newPast c) ks .answers
   pub memory : left c ks ≡ historyMemory c (historyOf c ks)
+  -- the history starts at new's zeros, and the last quote is its last
+  pub start-is : historyOf c ks .start ≡ fresh c .counts
+  pub last-is : left c ks .last ≡ lastOf (historyOf c ks .quotes)
   -- each cell is the pairs and mirrors that go its way, each total the sum of the changes of those from its state
   pub stay-is : (i j : ℕ) → i < states c → j < states c → getD (left c ks .counts .tables .stay) (i * states c + j) 0 ≡ stayAt (flow c (historyOf c ks)) i j
   pub moved-is : (i j : ℕ) → i < states c → j < states c → getD (left c ks .counts .tables .moved) (i * states c + j) 0 ≡ movedAt (flow c (historyOf c ks)) i j
@@ -55,3 +71,11 @@ pub record Demand3 (c : MicroPriceConfig) (ks : List Call) : Type 0 where
   pub quote-refused : (q : TopOfBook) → observed c (left c ks) q .answer ≡ historyRefusal c (historyOf c ks) q
   -- a save after the list, with an output of the image's length, is not refused
   pub save-fine : (out : List ℕ) → length out ≡ imageLength c → saved c (left c ks) out ≡ endSave Fine (image c (historyMemory c (historyOf c ks)))
+  -- after a save that writes b, calls of which no save writes b again, and a restore of b into memory of the right lengths, the history is that at the save
+  pub restore-returns : (before : List Call) (out : List ℕ) (js : List Call) (b : List ℕ) (lent : Memory Previous)
+      → ks ≡ before ++ (save out ∷ (js ++ (restore b lent ∷ [])))
+      → length out ≡ imageLength c
+      → b ≡ image c (historyMemory c (historyOf c before))
+      → any (wrote b) (run c (left c (before ++ (save out ∷ []))) js .answers) ≡ false
+      → lentWrong (states c) (lent .counts .tables) ≡ false
+      → historyOf c ks ≡ historyOf c before

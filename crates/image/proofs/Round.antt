@@ -86,7 +86,7 @@ totals-back (z ∷ l) e =
     let p = neither (overTotal z) (any overTotal l) e in
     λ i. total-back z (p .0) i ∷ totals-back l (p .1) i
 
-same-self : (l : List ℕ) → sameWords l l ≡ true
+pub same-self : (l : List ℕ) → sameWords l l ≡ true
 same-self [] = refl
 same-self (x ∷ xs) = rw (eqb-same x) (same-self xs)
 

@@ -1,4 +1,4 @@
-// The work by value, for Rattle callers, and the functions that it is made of. `save` and `restore` ask nothing; where another has a `requires`, each caller proves it.
+// The work by value, for Rattle callers, and the functions that it is made of. `save`, `restore` and `check_restore` ask nothing; where another has a `requires`, each caller proves it.
 use super::RestoreDone;
 use super::Restored;
 use calibrator::Previous;
@@ -127,7 +127,7 @@ fn check_held(
 }
 
 // What refuses an image, judged on its bytes before anything is written.
-fn check_restore(b: &[u8], stay: &[u64], moved: &[u64], totals: &[i64]) -> Check
+pub fn check_restore(b: &[u8], stay: &[u64], moved: &[u64], totals: &[i64]) -> Check
     ensures { λ r. ⌜ r ≡ restoreRefusal (given b) (tables (given stay) (given moved) (given totals)) ⌝ }
 {
     if b.len() < layout::HEADER {

@@ -7,3 +7,5 @@ pub mod Columns
 pub mod Exact
 pub mod Ratios
 pub mod Fractions
+pub mod Fits
+pub mod Computed

@@ -4,3 +4,4 @@ pub mod Mirror
 pub mod Rows
 pub mod Turns
 pub mod Marks
+pub mod Computed

@@ -1,4 +1,4 @@
--- A replay that is the run of its calls is, of a new calibrator's own calls, what their history says.
+-- A replay that is the run of its calls is, of a calibrator's own calls, what their history says.
 use mathlib.Core.Path.{_≡_, ap, _∙_}
 use mathlib.Core.Bool.{Bool, cond}
 use mathlib.Core.List.{List}
@@ -7,20 +7,23 @@ use lib.ListN.{length}
 use Rattle.config.specs.declared.MicroPriceConfig.{MicroPriceConfig}
 use Rattle.tally.specs.Rules.{Memory}
 use Rattle.calibrator.specs.declared.Previous.{Previous}
-use Rattle.history.specs.Calls.{run, historyMemory, newPast, story}
-use Rattle.replay.specs.Replay.{Site, Replay, replay, replayRun, replayed, replayStory, callsFrom, OwnCalls, Promised}
-use Rattle.replay.specs.declared.Replayed.the-variants.{BadEncoding}
+use Rattle.history.specs.Calls.{run, historyMemory, Past, newPast}
+use Rattle.history.proofs.Claim.{own-parts, part-claim}
 use Rattle.history.proofs.Demand.{demand-3}
+use Rattle.replay.specs.Replay.{Site, Replay, replay, replayEnd, replayRun, replayed, replayStory, callsFrom, callsMade, OwnCalls, pastOf, Promised}
+use Rattle.replay.specs.declared.Replayed.the-variants.{BadEncoding}
 
 pub promised : (c : MicroPriceConfig) (s : Site) (w ns : List ℕ) (r : Replay) → r ≡ replayed c s w ns → Promised c s w ns r
 promised c s w ns r e = record { run-is = e; history-is = of-history }
   where
-    of-history : OwnCalls c s w ns → r ≡ replayStory c (s .room) w (callsFrom c w 0 (length ns) s)
+    of-history : (o : OwnCalls c s w ns) → r ≡ replayStory c (pastOf c (o .before)) (s .room) w (callsFrom c w 0 (length ns) s)
     of-history o =
         let ks = callsFrom c w 0 (length ns) s in
-        let d = demand-3 c (o .valid-is) (o .words) ks (o .own) in
-        let ran : run c (s .memory) ks ≡ record { answers = story c (newPast c) ks .answers; left = historyMemory c (story c (newPast c) ks .past .now) } =
-        ap (λ (m : Memory Previous). run c m ks) (o .new) ∙ (λ i. record { answers = d .answers i; left = d .memory i }) in
+        let P : Past = pastOf c (o .before) in
+        let own = own-parts c (o .valid-is) (o .words) (o .before) (callsMade ks) (newPast c) (o .own) in
+        let here : s .memory ≡ historyMemory c (P .now) = o .reached ∙ demand-3 c (o .valid-is) (o .words) (o .before) (own .0) .memory in
+        let d = part-claim c (o .valid-is) (o .words) (o .before) (callsMade ks) (o .own) in
         e
-        ∙ ap (λ (t : Bool). cond t (replayRun c s w (run c (s .memory) ks)) (replay BadEncoding ns s)) (o .coded)
-        ∙ ap (replayRun c s w) ran
+        ∙ ap (λ (t : Bool). cond t (replayRun c s w ks) (replay BadEncoding ns s)) (o .coded)
+        ∙ ap (λ (m : Memory Previous). let r = run c m (callsMade ks) in replayEnd w (s .room) ks (r .answers) (r .left)) here
+        ∙ (λ i. replayEnd w (s .room) ks (d .answers i) (d .memories i))

@@ -1,10 +1,11 @@
 -- An encoded list of calls, run by the operations on lent memory, with lent room for images.
 -- A call is six words: its kind, 0 a quote, 1 a save, 2 a restore; then a quote's five words, or where its bytes begin in the room, how many they are, and
--- three words of any content. A restore is into the calibrator's own record and tables.
+-- three words of any content. A restore is into the calibrator's own record and tables; one of another configuration is left out.
 use Prim.Native.Nat.{ℕ, zero, suc, _+_, _*_}
 use mathlib.Core.Path.{_≡_}
-use mathlib.Core.Bool.{Bool, true, cond, _&&_, _||_}
-use mathlib.Core.List.{List, [], _∷_, map}
+use mathlib.Core.Bool.{Bool, true, false, not, cond, _&&_, _||_}
+use mathlib.Core.List.{List, [], _∷_, _++_}
+use mathlib.Core.Option.{Option, none, some}
 use lib.Dec.{leb, eqb}
 use lib.IntN.{ℤ}
 use lib.ListN.{length, getD, take, drop}
@@ -15,14 +16,17 @@ use Rattle.refusals.specs.Refusals.{numberOf, checkNumber}
 use Rattle.config.specs.Configuration.{valid}
 use Rattle.config.specs.declared.MicroPriceConfig.{MicroPriceConfig}
 use Rattle.quotes.specs.declared.TopOfBook.{TopOfBook}
+use Rattle.tally.specs.Entries.{Tables}
 use Rattle.tally.specs.Rules.{Memory}
 use Rattle.calibrator.specs.Record.{memory, came, remains}
-use Rattle.calibrator.specs.Observe.{fresh}
+use Rattle.calibrator.specs.Observe.{refuses}
 use Rattle.calibrator.specs.declared.Previous.{Previous}
 use Rattle.calibrator.specs.declared.Record.{Record}
-use Rattle.image.specs.declared.Restored.{Restored}
+use Rattle.layout.specs.Layout.{configIn}
+use Rattle.image.specs.Image.{restoreRefusal}
 use Rattle.image.specs.declared.Restored.the-variants as Restored
-use Rattle.history.specs.Calls.{Call, quote, save, restore, Answer, observes, saves, restores, Acted, act, Ran, run, historyMemory, newPast, story, OwnImages, ConfigWords}
+use Rattle.history.specs.Calls.{Call, quote, save, restore, Answer, observes, saves, restores, Acted, act, run, historyMemory, Past, newPast, story, OwnImages, ConfigWords}
+use Rattle.history.specs.Demand.{left}
 use Rattle.replay.specs.declared.Replayed.{Replayed}
 use Rattle.replay.specs.declared.Replayed.the-variants.{Done, BadEncoding}
 
@@ -95,18 +99,28 @@ sameConfig c d =
     && eqb (c .«min_state_observations») (d .«min_state_observations»)
     && eqb (c .«max_quote_gap_ms») (d .«max_quote_gap_ms»)
 
--- a restore that answers another configuration: none of 01's numbers
+-- an image of another configuration that nothing refuses
+abbrev pub isForeign : MicroPriceConfig → List ℕ → Tables → Bool
+isForeign c b t = not (sameConfig c (configIn b)) && not (refuses (restoreRefusal b t))
+
+-- a restore of such an image is left out
+abbrev pub isLeftOut : MicroPriceConfig → Call → Bool
+isLeftOut c (quote q) = false
+isLeftOut c (save out) = false
+isLeftOut c (restore b lent) = isForeign c b (lent .counts .tables)
+
+-- its number: none of 01's
 abbrev pub otherConfiguration : ℕ
 otherConfiguration = 101
 
 -- 0 if nothing is refused, else the refusal's number
-abbrev pub answerNumber : MicroPriceConfig → Answer → ℕ
-answerNumber c (observes a) = checkNumber a
-answerNumber c (saves s) = checkNumber (s .answer)
-answerNumber c (restores (Restored.Config d)) = cond (sameConfig c d) 0 otherConfiguration
-answerNumber c (restores (Restored.Refused r)) = numberOf r
+abbrev pub answerNumber : Answer → ℕ
+answerNumber (observes a) = checkNumber a
+answerNumber (saves s) = checkNumber (s .answer)
+answerNumber (restores (Restored.Config d)) = 0
+answerNumber (restores (Restored.Refused r)) = numberOf r
 
--- call k
+-- what a call is answered with, and the site after it
 pub record Stepped : Type 0 where
   pub answer : ℕ
   pub after : Site
@@ -114,20 +128,46 @@ pub record Stepped : Type 0 where
 abbrev pub steppedTo : ℕ → Site → Stepped
 steppedTo a s = record { answer = a; after = s }
 
+-- one that is left out changes nothing
+abbrev pub steppedUnless : Bool → Acted → ℕ → Site → Stepped
+steppedUnless true a at s = steppedTo otherConfiguration s
+steppedUnless false a at s = steppedTo (answerNumber (a .answer)) (siteAfter a at (s .room))
+
+-- call k
 abbrev pub stepped : MicroPriceConfig → List ℕ → ℕ → Site → Stepped
 stepped c w k s =
-    let a = act c (s .memory) (callAt w k s) in
-    steppedTo (answerNumber c (a .answer)) (siteAfter a (startAt w k) (s .room))
+    steppedUnless (isLeftOut c (callAt w k s)) (act c (s .memory) (callAt w k s)) (startAt w k) s
 
--- the calls that are made, n of them from call k on
-abbrev pub callsFrom : MicroPriceConfig → List ℕ → ℕ → ℕ → Site → List Call
+-- what inner functions say of one call on the memory m: it ends with the number n and leaves the memory o
+abbrev pub CallEnds : MicroPriceConfig → Memory Previous → Call → ℕ → Memory Previous → Type 0
+CallEnds c m l n o =
+    let out = isLeftOut c l in
+    (n ≡ cond out otherConfiguration (answerNumber (act c m l .answer))) × (o ≡ cond out m (act c m l .left))
+
+-- n calls from call k on; none where one is left out
+abbrev pub callsFrom : MicroPriceConfig → List ℕ → ℕ → ℕ → Site → List (Option Call)
 callsFrom c w k zero s = []
-callsFrom c w k (suc n) s = callAt w k s ∷ callsFrom c w (suc k) n (stepped c w k s .after)
+callsFrom c w k (suc n) s = cond (isLeftOut c (callAt w k s)) none (some (callAt w k s)) ∷ callsFrom c w (suc k) n (stepped c w k s .after)
 
--- the room after their answers
-abbrev pub roomFrom : List ℕ → ℕ → List Answer → List ℕ → List ℕ
-roomFrom w k [] room = room
-roomFrom w k (a ∷ later) room = roomFrom w (suc k) later (roomAfter a (startAt w k) room)
+-- those that are made
+abbrev pub callsMade : List (Option Call) → List Call
+callsMade [] = []
+callsMade (none ∷ ks) = callsMade ks
+callsMade (some k ∷ ks) = k ∷ callsMade ks
+
+-- the numbers in the order of the list, from the answers to the calls that are made
+abbrev pub callNumbers : List (Option Call) → List Answer → List ℕ
+callNumbers [] answers = []
+callNumbers (none ∷ ks) answers = otherConfiguration ∷ callNumbers ks answers
+callNumbers (some k ∷ ks) [] = []
+callNumbers (some k ∷ ks) (a ∷ answers) = answerNumber a ∷ callNumbers ks answers
+
+-- the room after those answers
+abbrev pub roomFrom : List ℕ → ℕ → List (Option Call) → List Answer → List ℕ → List ℕ
+roomFrom w k [] answers room = room
+roomFrom w k (none ∷ ks) answers room = roomFrom w (suc k) ks answers room
+roomFrom w k (some l ∷ ks) [] room = room
+roomFrom w k (some l ∷ ks) (a ∷ answers) room = roomFrom w (suc k) ks answers (roomAfter a (startAt w k) room)
 
 -- ---- replay
 
@@ -139,34 +179,42 @@ pub record Replay : Type 0 where
 abbrev pub replay : Replayed → List ℕ → Site → Replay
 replay a ns s = record { answer = a; numbers = ns; after = s }
 
-abbrev pub replayRun : MicroPriceConfig → Site → List ℕ → Ran → Replay
-replayRun c s w r =
-    replay Done (map (answerNumber c) (r .answers)) (record { memory = r .left; room = roomFrom w 0 (r .answers) (s .room) })
+-- the end of a replay, by the answers to the calls that are made and the memory that they leave
+abbrev pub replayEnd : List ℕ → List ℕ → List (Option Call) → List Answer → Memory Previous → Replay
+replayEnd w room ks answers m = replay Done (callNumbers ks answers) (record { memory = m; room = roomFrom w 0 ks answers room })
+
+abbrev pub replayRun : MicroPriceConfig → Site → List ℕ → List (Option Call) → Replay
+replayRun c s w ks =
+    let r = run c (s .memory) (callsMade ks) in
+    replayEnd w (s .room) ks (r .answers) (r .left)
 
 -- a bad encoding changes nothing; else the calls are run
 abbrev pub replayed : MicroPriceConfig → Site → List ℕ → List ℕ → Replay
 replayed c s w ns =
-    cond (wellCoded (length (s .room)) (length ns) w)
-    (replayRun c s w (run c (s .memory) (callsFrom c w 0 (length ns) s)))
-    (replay BadEncoding ns s)
+    cond (wellCoded (length (s .room)) (length ns) w) (replayRun c s w (callsFrom c w 0 (length ns) s)) (replay BadEncoding ns s)
 
 -- ---- as the history says
 
--- what a list of calls on a new calibrator leaves, by its history
-abbrev pub replayStory : MicroPriceConfig → List ℕ → List ℕ → List Call → Replay
-replayStory c room w ks =
-    let s = story c (newPast c) ks in
-    replay Done (map (answerNumber c) (s .answers)) (record { memory = historyMemory c (s .past .now); room = roomFrom w 0 (s .answers) room })
+-- what a list of calls leaves of a calibrator with the past P, by its history
+abbrev pub replayStory : MicroPriceConfig → Past → List ℕ → List ℕ → List (Option Call) → Replay
+replayStory c P room w ks =
+    let s = story c P (callsMade ks) in
+    replayEnd w room ks (s .answers) (historyMemory c (s .past .now))
 
--- a well coded list, on the memory that new leaves, in which only kept images are taken back
+-- the past of a new calibrator after some calls
+abbrev pub pastOf : MicroPriceConfig → List Call → Past
+pastOf c ks = story c (newPast c) ks .past
+
+-- a well coded list, on the memory that the calls before it left of a new calibrator, in which only kept images are taken back
 pub record OwnCalls (c : MicroPriceConfig) (s : Site) (w ns : List ℕ) : Type 0 where
   pub valid-is : valid c ≡ true
   pub words : ConfigWords c
-  pub new : s .memory ≡ fresh c
+  pub before : List Call
+  pub reached : s .memory ≡ left c before
   pub coded : wellCoded (length (s .room)) (length ns) w ≡ true
-  pub own : OwnImages c (newPast c) (callsFrom c w 0 (length ns) s)
+  pub own : OwnImages c (newPast c) (before ++ callsMade (callsFrom c w 0 (length ns) s))
 
--- a replay is the run of its calls; and of a new calibrator's own calls, what their history says
+-- a replay is the run of its calls; and of a calibrator's own calls, what their history says after those before them
 pub record Promised (c : MicroPriceConfig) (s : Site) (w ns : List ℕ) (r : Replay) : Type 0 where
   pub run-is : r ≡ replayed c s w ns
-  pub history-is : OwnCalls c s w ns → r ≡ replayStory c (s .room) w (callsFrom c w 0 (length ns) s)
+  pub history-is : (o : OwnCalls c s w ns) → r ≡ replayStory c (pastOf c (o .before)) (s .room) w (callsFrom c w 0 (length ns) s)

@@ -7,13 +7,14 @@ use image::Restored;
 use quotes::TopOfBook;
 use refusals::Check;
 ghost use mathlib.Core.Path.{_≡_};
-ghost use mathlib.Core.Bool.{true, false};
+ghost use mathlib.Core.Bool.{true};
 ghost use Prim.Native.Nat.{_+_, _*_, _≤_, _<_};
 ghost use lib.ListN.{length};
 ghost use Rattle.basics.specs.Loan.{given, final};
+ghost use Rattle.tally.specs.Entries.{tables};
 ghost use Rattle.calibrator.specs.Record.{came, remains};
-ghost use Rattle.history.specs.Calls.{quote, restore, restores, act};
-ghost use Rattle.replay.specs.Replay.{quoteAt, isCall, wellCoded, siteCame, siteRemains, sameConfig, answerNumber, steppedTo, stepped, Promised, replay as replays};
+ghost use Rattle.history.specs.Calls.{quote, restore, restores};
+ghost use Rattle.replay.specs.Replay.{quoteAt, isCall, wellCoded, siteCame, siteRemains, sameConfig, isForeign, answerNumber, steppedTo, stepped, CallEnds, Promised, replay as replays};
 
 // A call's answer as a number, and the record as it is left.
 pub struct CallDone {
@@ -21,9 +22,9 @@ pub struct CallDone {
     pub next: Record,
 }
 
-// ---- answers as numbers
+// ---- images of another configuration
 
-// What a replay's restore of another configuration is answered with.
+// The number of a restore of another configuration, which is left out.
 pub const OTHER_CONFIGURATION: u64 = 101;
 
 fn same_config(c: MicroPriceConfig, d: MicroPriceConfig) -> bool
@@ -36,19 +37,25 @@ fn same_config(c: MicroPriceConfig, d: MicroPriceConfig) -> bool
         & (c.max_quote_gap_ms == d.max_quote_gap_ms)
 }
 
-// The number of what a restore answers to a calibrator with the configuration c.
-fn restored_number(c: MicroPriceConfig, a: Restored) -> u64
-    ensures { λ n. ⌜ n ≡ answerNumber c (restores a) ⌝ }
+// Whether an image is of another configuration, and restore would take it.
+fn is_foreign(
+    config: MicroPriceConfig,
+    bytes: &[u8],
+    stay: &[u64],
+    moved: &[u64],
+    totals: &[i64],
+) -> bool
+    ensures { λ r. ⌜ r ≡ isForeign config (given bytes) (tables (given stay) (given moved) (given totals)) ⌝ }
 {
-    match a {
-        Restored::Config(d) => {
-            if same_config(c, d) {
-                0
-            } else {
-                OTHER_CONFIGURATION
-            }
-        }
-        Restored::Refused(r) => refusals::number_of(r),
+    if bytes.len() < layout::HEADER {
+        return false;
+    }
+    if same_config(config, layout::config_in(bytes)) {
+        return false;
+    }
+    match image::inner::check_restore(bytes, stay, moved, totals) {
+        Check::Fine => true,
+        Check::Refused(_) => false,
     }
 }
 
@@ -117,8 +124,7 @@ fn replay_quote(
     config: MicroPriceConfig,
     next: TopOfBook,
 ) -> CallDone
-    ensures { λ d. ⌜ (let done = act config (came rec stay moved «move_half_ticks») (quote next) in
-        (d .answer ≡ answerNumber config (done .answer)) × (remains (d .next) stay moved «move_half_ticks» ≡ done .left)) ⌝ }
+    ensures { λ d. ⌜ CallEnds config (came rec stay moved «move_half_ticks») (quote next) (d .answer) (remains (d .next) stay moved «move_half_ticks») ⌝ }
 {
     let done = calibrator::inner::observe(rec, stay, moved, move_half_ticks, config, next);
     let answer = done.answer;
@@ -129,6 +135,17 @@ fn replay_quote(
     }
 }
 
+// The number of what a restore answers.
+fn restored_number(a: Restored) -> u64
+    ensures { λ n. ⌜ n ≡ answerNumber (restores a) ⌝ }
+{
+    match a {
+        Restored::Config(_) => 0,
+        Restored::Refused(r) => refusals::number_of(r),
+    }
+}
+
+// A restore of another configuration is left out.
 fn replay_restore(
     rec: Record,
     stay: &mut [u64],
@@ -137,14 +154,19 @@ fn replay_restore(
     config: MicroPriceConfig,
     bytes: &[u8],
 ) -> CallDone
-    ensures { λ d. ⌜ (let m = came rec stay moved «move_half_ticks» in let done = act config m (restore (given bytes) m) in
-        (d .answer ≡ answerNumber config (done .answer)) × (remains (d .next) stay moved «move_half_ticks» ≡ done .left)) ⌝ }
+    ensures { λ d. ⌜ (let m = came rec stay moved «move_half_ticks» in CallEnds config m (restore (given bytes) m) (d .answer) (remains (d .next) stay moved «move_half_ticks»)) ⌝ }
 {
+    if is_foreign(config, bytes, stay, moved, move_half_ticks) {
+        return CallDone {
+            answer: OTHER_CONFIGURATION,
+            next: rec,
+        };
+    }
     let done = image::inner::restore(rec, bytes, stay, moved, move_half_ticks);
     let answer = done.answer;
     let after = done.next;
     CallDone {
-        answer: restored_number(config, answer),
+        answer: restored_number(answer),
         next: after,
     }
 }

@@ -20,7 +20,7 @@ pub struct ReplayDone {
 }
 
 // Runs an encoded list of calls and writes each one's answer. A call is six words: 0 and a quote; 1 (save) or 2 (restore), where its bytes begin in the room,
-// how many they are, and three words of any content.
+// how many they are, and three words of any content. A restore of another configuration is left out: it is answered 101 and changes nothing.
 pub fn replay(
     rec: &mut Record,
     stay: &mut [u64],

@@ -1,11 +1,12 @@
 -- The list of calls of this program: six words each, as specs/Replay.antt of `replay` has it.
-use mathlib.Core.List.{List, [], _∷_}
+use mathlib.Core.List.{List, [], _∷_, _++_}
 use Prim.Native.Nat.{ℕ}
-use lib.ListN.{replicate}
+use lib.ListN.{replicate, take, drop}
 use Rattle.config.specs.Configuration.{newConfig, withMinStateObservations, withMaxQuoteGapMs}
 use Rattle.config.specs.declared.MicroPriceConfig.{MicroPriceConfig}
 use Rattle.calibrator.specs.Observe.{fresh}
-use Rattle.replay.specs.Replay.{Site}
+use Rattle.layout.specs.Layout.{image}
+use Rattle.replay.specs.Replay.{Site, replayed}
 
 -- three states; an image has 328 bytes
 abbrev pub setup : MicroPriceConfig
@@ -28,9 +29,24 @@ journal =
     0 ∷ 1700 ∷ 100 ∷ 101 ∷ 1 ∷ 3 ∷
     2 ∷ 0 ∷ 100 ∷ 0 ∷ 0 ∷ 0 ∷
     0 ∷ 1700 ∷ 100 ∷ 101 ∷ 1 ∷ 1 ∷
+    2 ∷ 656 ∷ 328 ∷ 0 ∷ 0 ∷ 0 ∷
     1 ∷ 328 ∷ 328 ∷ 0 ∷ 0 ∷ 0 ∷
     []
 
--- a new calibrator, and room for two images
+-- another configuration
+abbrev pub otherSetup : MicroPriceConfig
+otherSetup = withMaxQuoteGapMs setup 2000
+
+-- a new calibrator, and room for two images before one of another configuration
 abbrev pub start : Site
-start = record { memory = fresh setup; room = replicate {A = ℕ} 656 0 }
+start = record { memory = fresh setup; room = replicate {A = ℕ} 656 0 ++ image otherSetup (fresh otherSetup) }
+
+-- the list in two parts: three calls, with the first save, and the others, on what the first part leaves
+abbrev pub firstPart : List ℕ
+firstPart = take 18 journal
+
+abbrev pub laterPart : List ℕ
+laterPart = drop 18 journal
+
+abbrev pub between : Site
+between = replayed setup start firstPart (replicate {A = ℕ} 3 0) .after

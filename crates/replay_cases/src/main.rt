@@ -1,4 +1,5 @@
-// Replays a list that saves, counts on, restores, is refused and goes on; prints each answer, then the words of the two images. Then a list with a call of no kind, which is not replayed.
+// Replays a list that saves, counts on, restores, is refused and goes on; a restore of another configuration is left out. Prints each answer, then the words of the two images that it saved.
+// Then a list with a call of no kind, which is not replayed.
 use calibrator::Counters;
 use calibrator::Previous;
 use calibrator::Record;
@@ -17,7 +18,7 @@ fn setup() -> MicroPriceConfig
 }
 
 // The calls, six words each.
-const JOURNAL: [u64; 96] = [
+const JOURNAL: [u64; 102] = [
     0,
     1000,
     100,
@@ -108,6 +109,12 @@ const JOURNAL: [u64; 96] = [
     101,
     1,
     1,
+    2,
+    656,
+    328,
+    0,
+    0,
+    0,
     1,
     328,
     328,
@@ -116,7 +123,7 @@ const JOURNAL: [u64; 96] = [
     0,
 ];
 
-fn journal() -> [u64; 96]
+fn journal() -> [u64; 102]
     ensures { λ w. ⌜ w ≡ Journal.journal ⌝ }
 {
     JOURNAL
@@ -159,9 +166,12 @@ fn main() {
     let mut stay = [0; 9];
     let mut moved = [0; 9];
     let mut totals = [0; 3];
-    let mut room = [0; 656];
-    let mut answers = [0; 16];
+    let mut room = [0; 984];
+    let mut answers = [0; 17];
     let mut words = [0; 82];
+    // the image of a new calibrator with a gap of 2000; its other words are 0
+    words::put_table(&mut room, 656, &[3, 3, 1, 1, 1, 2000, 160, 232, 304]);
+    words::put_table(&mut room, 808, &[328]);
     let calls = journal();
     let made = calibrator::inner::new(empty(), &mut stay, &mut moved, &mut totals, setup());
     let rec = made.next;

@@ -1,6 +1,7 @@
 -- The series G1 + B G1 + B B G1 + .. and the share: document 01, "The fit". A vector is a function of its index.
 use Prim.Native.Nat.{ℕ, zero, suc}
-use mathlib.Core.Bool.{cond}
+use mathlib.Core.Path.{_≡_}
+use mathlib.Core.Bool.{cond, true}
 use Rattle.linear.specs.Arithmetic.{Arith}
 
 -- the sum and the last term where the rounds ended
@@ -51,6 +52,11 @@ module _ (F : Arith) where
       cond (isInfinite (largest n next)) (notConverged total next)
       (cond (isTiny (largest n next)) (converged total next)
       (summed n B left total next))
+
+  -- a series that the number of its rounds did not cut off: it has converged, or its last term has an infinite largest
+  abbrev pub RoundsEnded : ℕ → Series Num → Type 0
+  RoundsEnded n (converged sum term) = Unit {0}
+  RoundsEnded n (notConverged sum term) = isInfinite (largest n term) ≡ true
 
   -- G1 + B G1 + B B G1 + ..
   abbrev pub sumSeries : ℕ → (ℕ → Vector) → Vector → ℕ → Series Num

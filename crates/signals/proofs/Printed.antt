@@ -2,14 +2,17 @@
 use Prim.Native.Nat.{ℕ}
 use mathlib.Core.Path.{_≡_, refl}
 use mathlib.Core.List.{List, [], _∷_, _++_}
-use lib.Ieee.{add, lt, le, eq, ofBits, toBits}
+use lib.Ieee.{Float, add, lt, le, eq, ofBits, toBits}
 use Rattle.floats.specs.Floats.{posZero, abs, half, fromBits}
 use Rattle.model.specs.declared.StateStatus.the-variants.{Rare}
 use Rattle.refusals.specs.declared.Check.the-variants.{Fine}
 use Rattle.quotes.specs.declared.TopOfBook.{TopOfBook}
 use Rattle.quotes.proofs.Marked.{marked}
 use Rattle.model_check.specs.Check.{rowFine, checkModel}
-use Rattle.signals.specs.Signal.{rowServes, sent, signalOf}
+use Rattle.signals.specs.Signal.{rowServes, signalOf}
+use Rattle.signals.specs.declared.Signalled.{Signalled}
+use Rattle.signals.specs.declared.Signalled.the-variants.{Sent}
+use Rattle.signals.specs.declared.SignalSource.{SignalSource}
 use Rattle.signals.specs.declared.SignalSource.the-variants.{MicroPrice, MidFallback, SpreadOutOfRange}
 
 abbrev row : ℕ → ℕ → ℕ → ℕ → ℕ → List ℕ
@@ -28,17 +31,22 @@ table =
 abbrev quote : ℕ → ℕ → ℕ → TopOfBook
 quote ask x y = record { «timestamp_ms» = 7; bid = 100; ask = ask; «bid_size» = x; «ask_size» = y }
 
+-- the signal of a quote at time 7: bid + ask, adjustment and source
+abbrev signal : ℕ → Float → SignalSource → Signalled
+signal mid-sum adjustment source = Sent (record { «timestamp_ms» = 7; «mid_sum» = mid-sum; adjustment = adjustment; source = source })
+
 pub printed-checked : checkModel (marked 1) table ≡ Fine
 unfolding rowFine abs half add lt le eq ofBits toBits
 printed-checked = refl
 
-pub printed-micro : signalOf (marked 1) table (quote 101 9 1) ≡ sent (quote 101 9 1) (fromBits 0x3fe0_0000_0000_0000) MicroPrice
+-- not at the mid
+pub printed-micro : signalOf (marked 1) table (quote 101 9 1) ≡ signal 201 (fromBits 0x3fe0_0000_0000_0000) MicroPrice
 unfolding rowServes abs half le ofBits
 printed-micro = refl
 
-pub printed-rare : signalOf (marked 1) table (quote 102 5 5) ≡ sent (quote 102 5 5) posZero (MidFallback Rare)
+pub printed-rare : signalOf (marked 1) table (quote 102 5 5) ≡ signal 202 posZero (MidFallback Rare)
 unfolding rowServes abs half le ofBits
 printed-rare = refl
 
-pub printed-wide : signalOf (marked 1) table (quote 103 5 5) ≡ sent (quote 103 5 5) posZero SpreadOutOfRange
+pub printed-wide : signalOf (marked 1) table (quote 103 5 5) ≡ signal 203 posZero SpreadOutOfRange
 printed-wide = refl

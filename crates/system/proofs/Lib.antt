@@ -1,2 +1,4 @@
 pub mod Filling
 pub mod Solving
+pub mod Fits
+pub mod MoreRounds

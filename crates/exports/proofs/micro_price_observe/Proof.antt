@@ -1,11 +1,12 @@
 -- `exports::micro_price_observe` meets its contract. The ways out: words that are not encoded are answered 100 and nothing is written, the second case of
--- `observeWords`; a refused quote leaves the memory, so the record's words stay right without a write (`observe-refused`); a counted one has its record written
--- back (`observe-fine`). The calls after the test ask of the words only what the test says (`known`). No loop.
+-- `observeWords`; a refused quote has its number answered and no word written (`outcome-refused`); a counted one has its record written back
+-- (`outcome-fine`). The calls after the test ask of the words only what the test says (`known`). No loop.
 use mathlib.Core.Path.{sym, _∙_}
 use borrow.Author.Tests.{not-true, not-false}
 use Rattle.encoding.specs.Encoding.{quote}
 use Rattle.encoding.proofs.Laws.{Encoded, encoded-by}
-use Rattle.exports.proofs.CountingWords.{observe-refused, observe-fine}
+use Rattle.calibrator.specs.Observe.{observed}
+use Rattle.exports.proofs.CountingWords.{outcome-refused, outcome-fine}
 use borrow.Author.Needs.{needs}
 use Rattle.exports.proofs.micro_price_observe.Statement.{statement}
 use Rattle.exports.proofs.micro_price_observe.Tie as tie
@@ -18,7 +19,7 @@ known : (c : tie.Else1) → let at-start : tie.Start = search in Encoded (at-sta
 known c = encoded-by _ _ _ (c .before .is-encoded .ensures) (not-false _ (c .if1 .left))
 
 record-of-requires : tie.Need-record-of-requires
-record-of-requires c κs = known (c .before) .rec
+record-of-requires c κs = known (c .before) .ten
 
 config-of-requires : tie.Need-config-of-requires
 config-of-requires c κs =
@@ -33,8 +34,9 @@ returns-2 c =
     let at-else1 : tie.Else1 = search in
     let at-start : tie.Start = search in
     let a = at-start .args in
-    observe-refused (a .config .now) (a .rec .now) (a .stay .now) (a .moved .now) (a .move-half-ticks .now) (known at-else1)
-    (at-record-of .record-of .ensures) (at-config-of .config-of .ensures) (quote (a .timestamp-ms) (a .bid) (a .ask) (a .bid-size) (a .ask-size))
+    outcome-refused (a .config .now) (a .rec .now) (a .stay .now) (a .moved .now) (a .move-half-ticks .now) (known at-else1)
+    (at-record-of .record-of .ensures) (at-config-of .config-of .ensures)
+    (λ d m. observed d m (quote (a .timestamp-ms) (a .bid) (a .ask) (a .bid-size) (a .ask-size)))
     (at-observe .observe .ensures) (c .before .enum-told2 .given .1) (c .check-number .ensures)
 
 put-record-requires : tie.Need-put-record-requires
@@ -52,8 +54,9 @@ returns-3 c =
     let at-slice-known2 : tie.After-slice-known2 = search in
     let at-start : tie.Start = search in
     let a = at-start .args in
-    observe-fine (a .config .now) (a .rec .now) (a .stay .now) (a .moved .now) (a .move-half-ticks .now) (known at-else1)
-    (at-record-of .record-of .ensures) (at-config-of .config-of .ensures) (quote (a .timestamp-ms) (a .bid) (a .ask) (a .bid-size) (a .ask-size))
+    outcome-fine (a .config .now) (a .rec .now) (a .stay .now) (a .moved .now) (a .move-half-ticks .now) (known at-else1)
+    (at-record-of .record-of .ensures) (at-config-of .config-of .ensures)
+    (λ d m. observed d m (quote (a .timestamp-ms) (a .bid) (a .ask) (a .bid-size) (a .ask-size)))
     (at-observe .observe .ensures) (at-enum-told .enum-told .given .1) (c .before .before .put-record .ensures)
 
 pub micro-price-observe-spec : {M : Type 1} → statement M

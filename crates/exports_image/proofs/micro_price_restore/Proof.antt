@@ -1,23 +1,23 @@
--- `exports_image::micro_price_restore` meets its contract. The ways out: words that are not encoded are answered 100 and nothing is written, the second case of
--- `restoreWords`; an image is taken back, and the words of its configuration and record are written (`restore-taken`); an image is refused, and the record
--- written back is the one that came (`restore-refused`). The calls after the test ask of the words only what the test says (`known`). No loop.
+-- `exports_image::micro_price_restore` meets its contract. The ways out: other than five and ten words are answered 100 and nothing is written, the second case
+-- of `restoreWords`; an image is taken back, and the words of its record and configuration are written (`restore-taken`); an image is refused, its number goes
+-- out and no word is written (`restore-refused`). The calls after the test ask of the words only what the test says (`known`). No loop.
 use mathlib.Core.Path.{sym, _∙_}
 use borrow.Author.Tests.{not-true, not-false}
-use Rattle.encoding.proofs.Laws.{Encoded, encoded-by}
+use Rattle.encoding.proofs.Laws.{Long, long-by}
 use Rattle.exports_image.proofs.ImageWords.{restore-taken, restore-refused}
 use borrow.Author.Needs.{needs}
 use Rattle.exports_image.proofs.micro_price_restore.Statement.{statement}
 use Rattle.exports_image.proofs.micro_price_restore.Tie as tie
 
 returns : tie.Need-returns
-returns c = rw (sym (c .before .is-encoded .ensures) ∙ not-true _ (c .if1 .taken))
+returns c = rw (sym (c .before .five-and-ten .ensures) ∙ not-true _ (c .if1 .taken))
 
--- the words are encoded
-known : (c : tie.Else1) → let at-start : tie.Start = search in Encoded (at-start .args .config .now) (at-start .args .rec .now)
-known c = encoded-by _ _ _ (c .before .is-encoded .ensures) (not-false _ (c .if1 .left))
+-- the words are five and ten
+known : (c : tie.Else1) → let at-start : tie.Start = search in Long (at-start .args .config .now) (at-start .args .rec .now)
+known c = long-by _ _ _ (c .before .five-and-ten .ensures) (not-false _ (c .if1 .left))
 
 record-of-requires : tie.Need-record-of-requires
-record-of-requires c κs = known (c .before) .rec
+record-of-requires c κs = known (c .before) .ten
 
 put-record-requires : tie.Need-put-record-requires
 put-record-requires c κs =
@@ -40,12 +40,11 @@ returns-2 c =
     let at-start : tie.Start = search in
     let a = at-start .args in
     restore-taken (a .config .now) (a .rec .now) (a .stay .now) (a .moved .now) (a .move-half-ticks .now) (known at-else1)
-    (at-record-of .record-of .ensures) (a .image .now) (at-restore .restore .ensures) (at-put-record .put-record .ensures)
-    (at-answer .answer .given .1) (c .before .before .put-config .ensures)
+    (at-record-of .record-of .ensures) (a .image .now) (at-restore .restore .ensures)
+    (at-answer .answer .given .1) (c .before .before .put-config .ensures) (at-put-record .put-record .ensures)
 
 returns-3 : tie.Need-returns-3
 returns-3 c =
-    let at-put-record : tie.After-put-record = search in
     let at-restore : tie.After-restore = search in
     let at-record-of : tie.After-record-of = search in
     let at-else1 : tie.Else1 = search in
@@ -53,7 +52,7 @@ returns-3 c =
     let at-start : tie.Start = search in
     let a = at-start .args in
     restore-refused (a .config .now) (a .rec .now) (a .stay .now) (a .moved .now) (a .move-half-ticks .now) (known at-else1)
-    (at-record-of .record-of .ensures) (a .image .now) (at-restore .restore .ensures) (at-put-record .put-record .ensures)
+    (at-record-of .record-of .ensures) (a .image .now) (at-restore .restore .ensures)
     (c .before .before .answer2 .given .1) (c .number-of .ensures)
 
 pub micro-price-restore-spec : {M : Type 1} → statement M
@@ -66,8 +65,8 @@ micro-price-restore-spec =
     returns
     record-of-requires
     (λ c κs. search needs)
-    put-record-requires
     (λ c. search needs)
+    put-record-requires
     put-config-requires
     (λ c. search needs)
     (λ c κs. search needs)

@@ -4,7 +4,15 @@
 use std::sync::OnceLock;
 
 /// Every fault and what it does.
-pub const FAULTS: [(&str, &str); 28] = [
+pub const FAULTS: [(&str, &str); 31] = [
+    (
+        "new_judges_record",
+        "new: words that are no record's are answered 100",
+    ),
+    (
+        "new_refusal_writes",
+        "new: a refusal writes the record's words",
+    ),
     ("count_plus_one", "a quote: a stay cell has one more"),
     ("bucket_swapped", "a quote: the sizes are exchanged"),
     ("last_kept", "a quote: at a gap skip the older quote stays"),
@@ -39,6 +47,10 @@ pub const FAULTS: [(&str, &str); 28] = [
     ),
     ("evening_last", "evening: no last quote is left"),
     ("replay_answer", "replay: an answer 0 is 5"),
+    (
+        "other_configuration_fills",
+        "replay: a restore answered 101 empties the record",
+    ),
 ];
 
 static CHOSEN: OnceLock<String> = OnceLock::new();

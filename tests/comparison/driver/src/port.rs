@@ -32,8 +32,11 @@ impl Lent {
     }
 
     pub fn start_new(&mut self) -> u64 {
+        if self.rec.first() > Some(&1) && hits("new_judges_record", &self.config) {
+            return BAD_ENCODING;
+        }
         // SAFETY: each pointer and length is that of a slice, and each slice that is written is borrowed for the call alone.
-        unsafe {
+        let answer = unsafe {
             sys::micro_price_new(
                 self.config.as_ptr(),
                 self.config.len(),
@@ -46,7 +49,11 @@ impl Lent {
                 self.totals.as_mut_ptr(),
                 self.totals.len(),
             )
+        };
+        if answer != 0 && hits("new_refusal_writes", &self.config) {
+            self.rec.fill(0);
         }
+        answer
     }
 
     pub fn observe(&mut self, quote: &Quote) -> u64 {
@@ -266,6 +273,9 @@ impl Lent {
         };
         if answer == 0 && hits("replay_answer", calls) && answers.last() == Some(&0) {
             *answers.last_mut().expect("an answer") = 5;
+        }
+        if answers.contains(&OTHER_CONFIGURATION) && hits("other_configuration_fills", calls) {
+            self.rec.fill(0);
         }
         answer
     }

@@ -199,9 +199,8 @@ fn save(seen: &mut Seen, sides: &Sides, out: &mut [u8]) -> Result<u64, Differenc
     Ok(answer)
 }
 
-/// A restore into the calibrator's own memory. An image of another configuration leaves the configuration given.
+/// A restore into the calibrator's own memory. One of another configuration is left out: the port's memory is put back.
 fn restore(seen: &mut Seen, sides: &mut Sides, image: &[u8]) -> Result<u64, Difference> {
-    let config = sides.plain.config;
     let before = sides.plain.clone();
     let told = images::judge(seen, image, before.totals.len())?;
     let answer = sides.port.restore(image);
@@ -216,12 +215,12 @@ fn restore(seen: &mut Seen, sides: &mut Sides, image: &[u8]) -> Result<u64, Diff
         return Ok(answer);
     };
     same_memory(&case, &sides.port, &memory)?;
-    let other = memory.config != config;
-    *sides = Sides::of(&Memory { config, ..memory });
-    if other {
+    if memory.config != before.config {
         seen.rule(Rule::OtherConfiguration);
+        sides.port = Lent::of(&before);
         return Ok(port::OTHER_CONFIGURATION);
     }
+    *sides = Sides::of(&memory);
     Ok(0)
 }
 

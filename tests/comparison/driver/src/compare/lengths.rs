@@ -1,5 +1,6 @@
-//! Wrong lengths (7), words that are no configuration or record (100), and that a refusal changes no lent memory. The Rust owns
-//! its memory and has none of this: everything here is judged by document 01 and the ABI's own rules, in `plain` and below.
+//! Wrong lengths (7), words that are no configuration or record (100), records of any ten words that are overwritten, and that
+//! a refusal changes no lent memory. The Rust owns its memory and has none of this: everything here is judged by document 01
+//! and the ABI's own rules, in `plain` and below.
 
 use crate::compare::sides::same_memory;
 use crate::compare::{Case, Compared, Run, fits, images};
@@ -10,6 +11,9 @@ use crate::plain;
 use crate::port::{self, BAD_ENCODING, Lent, Room};
 use crate::random::Random;
 use crate::seen::{Operation, Seen};
+
+/// What memory that was not cleared may hold.
+const UNCLEARED: u64 = 0xa5a5_a5a5_a5a5_a5a5;
 
 /// A word that stands where nothing is to be written.
 const UNWRITTEN: u64 = 0x7777;
@@ -43,7 +47,7 @@ fn bent(random: &mut Random) -> Lent {
     for _ in 0..random.below(3) {
         let word = random.index(5);
         let length = |random: &mut Random, slice: usize| other_length(random, slice);
-        match random.below(9) {
+        match random.below(10) {
             0 => lent.config.resize(length(random, lent.config.len()), 3),
             1 => lent.rec.resize(length(random, lent.rec.len()), 0),
             2 if lent.rec.len() == 10 => lent.rec[0] = inputs::special_word(random, 1),
@@ -54,14 +58,16 @@ fn bent(random: &mut Random) -> Lent {
             7 if lent.config.len() == 5 => {
                 lent.config[word] = inputs::special_word(random, lent.config[word]);
             }
+            8 => lent.rec.fill(UNCLEARED),
             _ => {}
         }
     }
     lent
 }
 
-fn is_config(lent: &Lent) -> bool {
-    lent.config.len() == 5
+/// Five and ten words, all that new, restore and the evening ask of a configuration's words and of the record.
+fn five_and_ten(lent: &Lent) -> bool {
+    lent.config.len() == 5 && lent.rec.len() == 10
 }
 
 /// Ten words: 1 and a quote, or 0 and zeros; then any counters.
@@ -71,7 +77,15 @@ fn is_record(rec: &[u64]) -> bool {
 
 /// The memory that is lent, or 100, 1 or 7.
 fn told(lent: &Lent) -> Result<Memory, u64> {
-    if !is_config(lent) || !is_record(&lent.rec) {
+    if five_and_ten(lent) && !is_record(&lent.rec) {
+        return Err(BAD_ENCODING);
+    }
+    overwritten(lent)
+}
+
+/// The same where the record is overwritten, whose words may be any.
+fn overwritten(lent: &Lent) -> Result<Memory, u64> {
+    if !five_and_ten(lent) {
         return Err(BAD_ENCODING);
     }
     let config = Config::of_words(&lent.config);
@@ -160,7 +174,7 @@ fn quote(run: &mut Run, before: &Lent) -> Compared {
 }
 
 fn new(seen: &mut Seen, before: &Lent) -> Compared {
-    let want = told(before).map(|memory| Memory::new(memory.config));
+    let want = overwritten(before).map(|memory| Memory::new(memory.config));
     let mut lent = before.clone();
     let answer = lent.start_new();
     after(seen, Operation::New, (before, &lent), answer, want)
@@ -201,7 +215,7 @@ fn restore(run: &mut Run, before: &Lent) -> Compared {
     if random.one_in(3) {
         images::damage(random, &mut image);
     }
-    let want = if !is_config(before) || !is_record(&before.rec) {
+    let want = if !five_and_ten(before) {
         Err(BAD_ENCODING)
     } else {
         plain::read_image(&image).and_then(|memory| {
@@ -274,34 +288,41 @@ fn some_recording(random: &mut Random) -> (Vec<u64>, (u64, u64)) {
 
 /// What an evening is refused by before it counts: 100, 7 of the recording, 14, 15, 1, 7 of the others; or 0.
 fn evening_refusal(lent: &Lent, recording: &[u64], window: (u64, u64), room: &Room) -> u64 {
-    if !is_config(lent) || !is_record(&lent.rec) {
+    if !five_and_ten(lent) {
         return BAD_ENCODING;
     }
     if !recording.len().is_multiple_of(5) {
         return 7;
     }
     let times: Vec<u64> = recording.chunks(5).map(|quote| quote[0]).collect();
-    match plain::window(&times, window.0, window.1).and_then(|_| told(lent)) {
+    match plain::window(&times, window.0, window.1).and_then(|_| overwritten(lent)) {
         Ok(memory) if room_fits(room, memory.totals.len()) => 0,
         Ok(_) => 7,
         Err(number) => number,
     }
 }
 
+/// An evening that is refused before it counts changes nothing; one that counts bad quotes alone leaves a new calibrator: 16.
 fn evening(run: &mut Run, before: &Lent) -> Compared {
     let (recording, window) = some_recording(&mut run.random);
     let mut room = some_room(&mut run.random, before.totals.len());
-    let unused = room.clone();
+    let mut unused = room.clone();
     let want = evening_refusal(before, &recording, window, &room);
-    if want == 0 {
-        return Ok(());
-    }
     let (mut lent, mut invalid) = (before.clone(), UNWRITTEN);
     let answer = lent.calibrate(&recording, window, &mut room, &mut invalid);
     let case = Case {
         operation: Operation::Evening,
         input: &|| format!("{}recording {}", print(before), join(&recording)),
     };
+    if want == 0 {
+        run.seen.answer(Operation::Evening, answer);
+        let inside = |quote: &&[u64]| window.0 <= quote[0] && quote[0] < window.1;
+        let bad = recording.chunks(5).filter(inside).count() as u64;
+        unused.scratch.fill(0.0);
+        case.equal("answer and invalid quotes", (answer, invalid), (16, bad))?;
+        case.holds("scratch is zero and the model table as it was", room == unused)?;
+        return same_memory(&case, &lent, &Memory::new(Config::of_words(&before.config)));
+    }
     let untouched = room == unused && invalid == UNWRITTEN;
     case.holds("room and invalid quotes are as they were", untouched)?;
     after(
@@ -462,7 +483,7 @@ fn replay(run: &mut Run, before: &Lent) -> Compared {
         operation: Operation::Replay,
         input: &|| format!("{}calls {}", print(before), join(&coded.calls)),
     };
-    if !coded.well || !is_config(before) || !is_record(&before.rec) {
+    if !coded.well || !five_and_ten(before) || !is_record(&before.rec) {
         let untouched = lent == *before
             && room.iter().all(|b| *b == 0x33)
             && coded.answers.iter().all(|a| *a == UNWRITTEN);

@@ -1,0 +1,4 @@
+pub mod InWords
+pub mod Demand
+pub mod Calibrate
+pub mod Instance

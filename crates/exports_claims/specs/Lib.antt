@@ -1,0 +1,3 @@
+pub mod WordCalls
+pub mod Demand
+pub mod Calibrate

@@ -1,0 +1,145 @@
+-- A list that tells the history last kept with an image from the first: two histories have one image, and its restore returns to the second.
+use Prim.Native.Nat.{ℕ, _<_}
+use mathlib.Core.Path.{_≡_, refl, ap}
+use mathlib.Core.List.{List, [], _∷_, _++_, map}
+use native.Mathlib.Omega.{arith}
+use lib.IntN.{pos}
+use lib.ListN.{replicate}
+use Rattle.basics.specs.Lists.{sum}
+use Rattle.words.specs.Words.{AllWords}
+use Rattle.refusals.specs.Refusals.{refusal}
+use Rattle.refusals.specs.declared.Check.the-variants as Check
+use Rattle.config.specs.Configuration.{newConfig}
+use Rattle.config.specs.declared.MicroPriceConfig.{MicroPriceConfig}
+use Rattle.quotes.specs.declared.TopOfBook.{TopOfBook}
+use Rattle.tally.specs.Entries.{tables}
+use Rattle.tally.specs.Events.{zeros}
+use Rattle.tally.specs.Rules.{Memory}
+use Rattle.calibrator.specs.Observe.{fresh}
+use Rattle.calibrator.specs.declared.Previous.{Previous}
+use Rattle.calibrator.specs.declared.Previous.the-variants.{Nothing, Quoted}
+use Rattle.layout.specs.Layout.{header, headerIn, imageLength, image, previousWords}
+use Rattle.image.specs.Image.{endSave}
+use Rattle.image.specs.declared.Restored.the-variants as Restored
+use Rattle.history.specs.Calls.{Call, quote, save, restore, observes, saves, restores, run, History, newHistory, historyMemory, newPast, OwnImages, ConfigWords}
+use Rattle.history.specs.Demand.{historyOf, Demand3}
+use Rattle.history.proofs.Demand.{demand-3}
+
+-- tick 1, three buckets, one spread state: an image has 328 bytes
+abbrev pub three-states : MicroPriceConfig
+three-states = newConfig 1 3 1
+
+-- bid 100 and ask 101 at a time, of one size on both sides
+abbrev pub even-quote : ℕ → ℕ → TopOfBook
+even-quote time size =
+    record { «timestamp_ms» = time; bid = 100; ask = 101; «bid_size» = size; «ask_size» = size }
+
+-- two histories of two quotes: the first quotes differ and are of one state, the last quote is the same
+abbrev pub first-history : History
+first-history = record { start = fresh three-states .counts; quotes = even-quote 0 5 ∷ even-quote 1 5 ∷ [] }
+
+abbrev pub second-history : History
+second-history = record { start = fresh three-states .counts; quotes = even-quote 0 6 ∷ even-quote 1 5 ∷ [] }
+
+abbrev pub imageOf : History → List ℕ
+imageOf H = image three-states (historyMemory three-states H)
+
+abbrev pub empty-image : List ℕ
+empty-image = imageOf (newHistory three-states)
+
+abbrev pub first-image : List ℕ
+first-image = imageOf first-history
+
+abbrev pub image-room : List ℕ
+image-room = replicate (imageLength three-states) 0
+
+-- other memory for a restore, of the right lengths: a record and tables of sevens
+abbrev pub sevens : Memory Previous
+sevens =
+    record {
+      last = Quoted (record { «timestamp_ms» = 7; bid = 7; ask = 7; «bid_size» = 7; «ask_size» = 7 });
+      counts =
+          record {
+            pairs = 7;
+            skips = 7 ∷ 7 ∷ [];
+            largest = 7;
+            tables = tables (replicate 9 7) (replicate 9 7) (replicate 3 (pos 7));
+          };
+    }
+
+-- tables of two states: wrong lengths
+abbrev pub two-states : Memory Previous
+two-states = record { last = Nothing; counts = zeros 2 2 }
+
+-- new and the first history are saved; new is restored, and the second history is gained
+abbrev pub before-second-save : List Call
+before-second-save =
+    save image-room ∷
+    quote (even-quote 0 5) ∷
+    quote (even-quote 1 5) ∷
+    save image-room ∷
+    restore empty-image sevens ∷
+    quote (even-quote 0 6) ∷
+    quote (even-quote 1 5) ∷
+    []
+
+-- 7 refuses both
+abbrev pub refused-calls : List Call
+refused-calls = save [] ∷ restore first-image two-states ∷ []
+
+-- the second history is saved, and the image of the first restored
+abbrev pub returning-calls : List Call
+returning-calls = before-second-save ++ (save image-room ∷ (refused-calls ++ (restore first-image sevens ∷ [])))
+
+-- ---- what the list comes to
+
+pub histories-differ : first-history ≡ second-history → ⊥
+histories-differ e = omega (arith, ap (λ (H : History). sum (map (λ q. q .«bid_size») (H .quotes))) e)
+
+pub one-image : imageOf first-history ≡ imageOf second-history
+unfolding header headerIn
+one-image = refl
+
+pub second-is-back : historyOf three-states returning-calls ≡ second-history
+unfolding header headerIn
+second-is-back = refl
+
+-- what the operations answer; the third save writes what the second wrote
+pub answers-are : run three-states (fresh three-states) returning-calls .answers ≡
+    (saves (endSave Check.Fine empty-image) ∷
+    observes Check.Fine ∷
+    observes Check.Fine ∷
+    saves (endSave Check.Fine first-image) ∷
+    restores (Restored.Config three-states) ∷
+    observes Check.Fine ∷
+    observes Check.Fine ∷
+    saves (endSave Check.Fine first-image) ∷
+    saves (endSave (Check.Refused (refusal 7)) []) ∷
+    restores (Restored.Refused (refusal 7)) ∷
+    restores (Restored.Config three-states) ∷
+    [])
+unfolding header headerIn
+answers-are = refl
+
+-- ---- the hypotheses of demand 3 and of its restore-returns are met
+
+words-fit-at : (time size : ℕ) → time < 10 → size < 10 → AllWords (previousWords (Quoted (even-quote time size)))
+words-fit-at time size t x = (omega arith, (omega arith, (omega arith, (omega arith, (omega arith, (omega arith, tt))))))
+
+pub returning-words : ConfigWords three-states
+returning-words = (omega arith, (omega arith, (omega arith, (omega arith, (omega arith, tt)))))
+
+pub returning-own : OwnImages three-states (newPast three-states) returning-calls
+unfolding header headerIn
+returning-own =
+    let five = words-fit-at 0 5 (omega arith) (omega arith) in
+    let six = words-fit-at 0 6 (omega arith) (omega arith) in
+    let last = words-fit-at 1 5 (omega arith) (omega arith) in
+    (tt, (five, (last, (tt, (tt, (six, (last, (tt, (tt, (tt, (tt, tt)))))))))))
+
+pub returning-demand : Demand3 three-states returning-calls
+returning-demand = demand-3 three-states refl returning-words returning-calls returning-own
+
+pub returned-to-save : historyOf three-states returning-calls ≡ historyOf three-states before-second-save
+unfolding header headerIn
+returned-to-save = returning-demand .restore-returns before-second-save image-room refused-calls first-image sevens refl refl refl refl refl
