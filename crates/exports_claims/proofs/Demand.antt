@@ -31,7 +31,7 @@ use Rattle.exports.specs.Counting.{ofOutcome, newWords}
 use Rattle.exports_fit.specs.Fits.{LentFit, lentFit, ofFit}
 use Rattle.exports_models.specs.Models.{lentSignal, ofSignalled}
 use Rattle.exports_claims.specs.WordCalls.{WordMemory, lentMemory, memoryInWords, WordCall, historyCalls, WordsRan, runWords, answersInWords, storyInWords}
-use Rattle.exports_claims.specs.Demand.{fitInWords, Demand3Words}
+use Rattle.exports_claims.specs.Demand.{ranFromNew, fitInWords, Demand3Words}
 use Rattle.exports_claims.proofs.InWords.{HasKinds, kinds-left, words-encoded, memory-from-words, run-words}
 
 -- ---- micro_price_new that answers 0
@@ -72,17 +72,17 @@ module _ (c w s m : List ℕ) (t : List ℤ) where
     whole = demand-3-whole d (made .valid-is) words (historyCalls ks) own
 
     -- what the operations leave, in words
-    ran : runWords c (lentMemory (newWords c w s m t)) ks
+    ran : ranFromNew c w s m t ks
         ≡ record { answers = answersInWords ks (run d (fresh d) (historyCalls ks) .answers); left = memoryInWords (left d (historyCalls ks)) }
     ran = ap (λ (h : WordMemory). runWords c h ks) (made .leaves) ∙ run-words c (made .config) ks (fresh d) refl
 
-    pub words-history : runWords c (lentMemory (newWords c w s m t)) ks ≡ storyInWords c ks
+    pub words-history : ranFromNew c w s m t ks ≡ storyInWords c ks
     words-history = ran ∙ (λ i. record { answers = answersInWords ks (whole .history .answers i); left = memoryInWords (whole .history .memory i) })
 
     -- ---- the fit after it
 
     abbrev after : WordMemory
-    after = runWords c (lentMemory (newWords c w s m t)) ks .left
+    after = ranFromNew c w s m t ks .left
 
     fit-is : (model : List ℕ) (scratch : List Float) → fitInWords c after model scratch ≡ ofFit (fitCounts d (left d (historyCalls ks)) model scratch)
     fit-is model scratch =

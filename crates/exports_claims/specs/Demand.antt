@@ -14,7 +14,11 @@ use Rattle.claims.specs.Models.{Model, Demand3Whole}
 use Rattle.exports.specs.Counting.{newWords}
 use Rattle.exports_fit.specs.Fits.{LentFit, ofFit, fitWords}
 use Rattle.exports_models.specs.Models.{ofSignalled, signalWords}
-use Rattle.exports_claims.specs.WordCalls.{WordMemory, lentMemory, WordCall, historyCalls, runWords, storyInWords}
+use Rattle.exports_claims.specs.WordCalls.{WordMemory, lentMemory, WordCall, WordsRan, historyCalls, runWords, storyInWords}
+
+-- a list of calls on what micro_price_new leaves of the memory that it is lent
+abbrev pub ranFromNew : List ℕ → List ℕ → List ℕ → List ℕ → List ℤ → List WordCall → WordsRan
+ranFromNew c w s m t ks = runWords c (lentMemory (newWords c w s m t)) ks
 
 -- micro_price_fit_counts on memory that a caller holds
 abbrev pub fitInWords : List ℕ → WordMemory → List ℕ → List Float → LentFit
@@ -22,14 +26,14 @@ fitInWords c h model scratch = fitWords c (h .rec) (h .stay) (h .moved) (h .tota
 
 pub record Demand3Words (c w s m : List ℕ) (t : List ℤ) (ks : List WordCall) : Type 0 where
   -- every number, output and restored configuration word, and after the list the record's words and the tables, are the history's
-  pub history : runWords c (lentMemory (newWords c w s m t)) ks ≡ storyInWords c ks
+  pub history : ranFromNew c w s m t ks ≡ storyInWords c ks
   -- the calls that are made have demand 3 whole
   pub whole : Demand3Whole (configOf c) (historyCalls ks)
   -- a fit after the list is that of what they leave, and one that answers 0 leaves a model
-  pub fit-is : (model : List ℕ) (scratch : List Float) → fitInWords c (runWords c (lentMemory (newWords c w s m t)) ks .left) model scratch
-      ≡ ofFit (fitCounts (configOf c) (left (configOf c) (historyCalls ks)) model scratch)
-  pub model : (model : List ℕ) (scratch : List Float) → fitInWords c (runWords c (lentMemory (newWords c w s m t)) ks .left) model scratch .answer ≡ 0
-      → Model (configOf c) (fitInWords c (runWords c (lentMemory (newWords c w s m t)) ks .left) model scratch .model)
+  pub fit-is : (model : List ℕ) (scratch : List Float)
+      → fitInWords c (ranFromNew c w s m t ks .left) model scratch ≡ ofFit (fitCounts (configOf c) (left (configOf c) (historyCalls ks)) model scratch)
+  pub model : (model : List ℕ) (scratch : List Float) → fitInWords c (ranFromNew c w s m t ks .left) model scratch .answer ≡ 0
+      → Model (configOf c) (fitInWords c (ranFromNew c w s m t ks .left) model scratch .model)
   -- the signal of any model table and quote, with four words for it
   pub signal-is : (model : List ℕ) (q : TopOfBook) (out : List ℕ) (row : ℕ) → length out ≡ 4
       → signalWords c model q out row ≡ ofSignalled (signalOf (configOf c) model q) out row

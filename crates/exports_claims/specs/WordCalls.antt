@@ -55,7 +55,7 @@ pub record WordsActed : Type 0 where
   pub answer : WordAnswer
   pub left : WordMemory
 
--- memory that a restore fills is the calibrator's from then on
+-- memory that a restore fills is the calibrator's from then on; a refused one leaves what it is lent (`restore-unchanged` of `exports_image`)
 abbrev pub actWords : List ℕ → WordMemory → WordCall → WordsActed
 actWords c h (observing q) =
     let l = observeWords c (h .rec) (h .stay) (h .moved) (h .totals) q in
