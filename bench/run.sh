@@ -8,6 +8,8 @@ build=$root/target/bench
 
 if [ -z "${MICRO_PRICE_LIB:-}" ]; then
     "$root/bindings/library.sh"
+    MICRO_PRICE_LIB=$root/target/staticlib/libmicro_price.a
+    export MICRO_PRICE_LIB
 fi
 "$root/tests/comparison/build.sh"
 mkdir -p "$build/.cargo"
