@@ -1,5 +1,5 @@
 #!/bin/sh
-# Shows that run.sh can fail: each change below, made in a copy of the files that it reads, must be refused.
+# Shows that run.sh can fail: it must pass on a copy of the files that it reads, and refuse each change below made in such a copy.
 set -eu
 here=$(cd "$(dirname "$0")" && pwd)
 root=$(cd "$here/../.." && pwd)
@@ -16,21 +16,35 @@ must_fail() {
         missed=1
     else
         echo "refused: $1"
-        grep '^header:' "$work/said" | grep -v 'functions are those of' | head -n 1 | sed 's/^/    /'
+        grep -E '^(header:|[<>] )' "$work/said" | grep -v -E '^header: ([0-9]+ |each |the sizes |the compiler )' | head -n 2 |
+            sed 's/^/    /'
     fi
+}
+
+copy() {
+    rm -rf "$work/tree"
+    mkdir -p "$work/tree"
+    (cd "$root" && tar cf - include docs/PROMISES.md crates/*/src bindings/rust/src) | (cd "$work/tree" && tar xf -)
 }
 
 # refused WHAT FILE OLD NEW: with OLD replaced by NEW in FILE.
 refused() {
-    rm -rf "$work/tree"
-    mkdir -p "$work/tree"
-    (cd "$root" && tar cf - include crates/exports*/src crates/refusals/src crates/encoding/src crates/replay/src bindings/rust/src) |
-        (cd "$work/tree" && tar xf -)
+    copy
     "$root/tests/comparison/replace_once.pl" "$work/tree/$2" "$3" "$4"
     must_fail "$1" "$work/tree"
 }
 
+# refused_in_both WHAT OLD NEW OLD NEW: in the header, and in PROMISES.md.
+refused_in_both() {
+    copy
+    "$root/tests/comparison/replace_once.pl" "$work/tree/$header" "$2" "$3"
+    "$root/tests/comparison/replace_once.pl" "$work/tree/$promises" "$4" "$5"
+    must_fail "$1" "$work/tree"
+}
+
 header=include/micro_price.h
+copy
+"$here/run.sh" "$work/tree"
 refused "a function less" $header \
     'uint64_t micro_price_validate(const uint64_t *config, size_t config_len);' ''
 refused "a function more" $header \
@@ -39,11 +53,11 @@ uint64_t micro_price_validate('
 refused "a pointer to constant words that are written" $header \
     'size_t out_len, uint64_t *row);' 'size_t out_len, const uint64_t *row);'
 refused "a signed number for an unsigned one" $header \
-    'uint64_t start, uint64_t end,
-                               uint64_t *first' 'int64_t start, uint64_t end,
-                               uint64_t *first'
+    'uint64_t start, uint64_t end, uint64_t *first' 'int64_t start, uint64_t end, uint64_t *first'
 refused "start and end exchanged" $header \
-    'uint64_t start, uint64_t end, double *scratch' 'uint64_t end, uint64_t start, double *scratch'
+    'uint64_t start,
+                               uint64_t end, double *scratch' 'uint64_t end,
+                               uint64_t start, double *scratch'
 refused "a length left out" $header \
     'const uint64_t *calls, size_t calls_len,' 'const uint64_t *calls,'
 refused "another result" $header \
@@ -60,6 +74,58 @@ refused "totals without a sign in Rust" bindings/rust/src/sys.rs \
         out: *mut u8,' 'move_half_ticks: *const u64,
         move_half_ticks_len: usize,
         out: *mut u8,'
+
+# Lists of answers, and what is written at each.
+promises=docs/PROMISES.md
+refused "a refusal left out" $header '100, 1, 7, 8, 2, 3, 4, 5, 6 ' '100, 1, 7, 8, 2, 3, 4, 6 '
+refused "a refusal in another place" $header '100, 1, 7, 8, 6, 9, 10, 11 ' '100, 1, 7, 6, 8, 9, 10, 11 '
+refused "a refusal more" $header '100, 1, 7, 2, 3, 4 ' '100, 1, 7, 2, 3, 4, 5 '
+refused "a refusal that stands twice, without its reason" $header '12 (any other), 7' '12, 7'
+refused "a refusal left out of PROMISES.md" $promises '100, 1, 7, 8, 2, 3, 4, 5, 6, 0' '100, 1, 7, 8, 2, 3, 4, 5, 0'
+refused_in_both "a refusal left out of both" '7, 14, 15  ' '7, 14  ' '| 7, 14, 15, 0 |' '| 7, 14, 0 |'
+refused_in_both "a refusal in another place in both" '7, 14, 15  ' '7, 15, 14  ' '| 7, 14, 15, 0 |' '| 7, 15, 14, 0 |'
+refused_in_both "19 in another place in both, which no run meets" '16 (none to fit), 17, 18, 19         rec' \
+    '16 (none to fit), 19, 17, 18         rec' '2, 6, 16, 17, 18, 19, 16, 0' '2, 6, 16, 19, 17, 18, 16, 0'
+refused "a table that the header does not name as written" $header \
+    '2, 6                                 rec, stay, moved, move_half_ticks' '2, 6                                 rec, stay, moved'
+refused "scratch that is said to stay at 16" $header \
+    '16 (none inside the quotes)          scratch
+' '16 (none inside the quotes)          nothing
+'
+refused "memory that is never written" $header \
+    '0                                    out
+ */
+MICRO_PRICE_MUST_USE
+uint64_t micro_price_save(' '0                                    out, rec
+ */
+MICRO_PRICE_MUST_USE
+uint64_t micro_price_save('
+
+# Sizes and other numbers.
+refused "a cell more" $header '((size_t)(states) * (size_t)(states))' '((size_t)(states) * (size_t)(states) + 1)'
+refused "a float less" $header '(2 * (size_t)(states) + 10)' '(2 * (size_t)(states) + 9)'
+refused "a word more of the model" $header \
+    '(MICRO_PRICE_ROW_WORDS * (size_t)(states))' '(MICRO_PRICE_ROW_WORDS * (size_t)(states) + 1)'
+refused "a byte less of the image" $header \
+    '16 * MICRO_PRICE_CELLS(states) + 8 * (size_t)(states))' '16 * MICRO_PRICE_CELLS(states) + 8 * (size_t)(states) - 1)'
+refused "a longer header of the image" $header 'MICRO_PRICE_IMAGE_HEADER 160' 'MICRO_PRICE_IMAGE_HEADER 168'
+for words in CONFIG RECORD QUOTE ROW SIGNAL CALL; do
+    number=$(sed -n "s/^#define MICRO_PRICE_${words}_WORDS //p" "$root/$header")
+    refused "a word more: ${words}_WORDS" $header "MICRO_PRICE_${words}_WORDS $number" "MICRO_PRICE_${words}_WORDS $((number + 1))"
+done
+refused "n and s exchanged in an image" $header 'IMAGE_BUCKETS 1
+#define MICRO_PRICE_IMAGE_SPREAD_STATES 2' 'IMAGE_BUCKETS 2
+#define MICRO_PRICE_IMAGE_SPREAD_STATES 1'
+refused "save and restore exchanged" $header 'CALL_SAVE 1
+#define MICRO_PRICE_CALL_RESTORE 2' 'CALL_SAVE 2
+#define MICRO_PRICE_CALL_RESTORE 1'
+refused "another default" $header 'MAX_QUOTE_GAP_MS 60000' 'MAX_QUOTE_GAP_MS 5000'
+refused "another status" $header 'STATUS_RARE 1' 'STATUS_RARE 2'
+refused "another source" $header 'SOURCE_SPREAD_OUT_OF_RANGE 4' 'SOURCE_SPREAD_OUT_OF_RANGE 5'
+refused "a number that nothing has" $header '#define MICRO_PRICE_CONFIG_WORDS 5' '#define MICRO_PRICE_CONFIG_WORDS 5
+#define MICRO_PRICE_MOST_QUOTES 1000'
+refused "an answer that may be dropped" $header 'MICRO_PRICE_MUST_USE
+uint64_t micro_price_observe(' 'uint64_t micro_price_observe('
 
 MICRO_PRICE_LIB=$work/less.a
 objcopy --localize-symbol=micro_price_save "$archive" "$MICRO_PRICE_LIB"

@@ -3,12 +3,27 @@
 
 Holds the functions that TREE/include/micro_price.h declares against the symbols that ARCHIVE exports, and their parameters
 against crates/exports*, where they are written, and against bindings/rust/src/sys.rs, where Rust declares them. Holds the
-header's numbers against crates/refusals, crates/encoding and crates/replay. Prints each mismatch and ends with status 1 if there is one.
+header's numbers against the crates that have them. Prints each mismatch and ends with status 1 if there is one.
 """
 import re
 import subprocess
 import sys
 from pathlib import Path
+
+# Numbers of the header that refusals.c is written with: a wrong one makes a run answer something else.
+RUN = {"CONFIG_WORDS", "RECORD_WORDS", "QUOTE_WORDS", "ROW_WORDS", "SIGNAL_WORDS", "CALL_WORDS", "CALL_QUOTE", "CALL_SAVE",
+       "CALL_RESTORE", "IMAGE_STATES", "IMAGE_BUCKETS", "IMAGE_SPREAD_STATES", "IMAGE_TICK", "IMAGE_MIN_STATE_OBSERVATIONS",
+       "IMAGE_MAX_QUOTE_GAP_MS"}
+
+# Constants of crates: the header's name, the file and the constant.
+CONSTANTS = [
+    ("BAD_ENCODING", "crates/encoding/src/lib.rt", "BAD_ENCODING"),
+    ("OTHER_CONFIGURATION", "crates/replay/src/inner.rt", "OTHER_CONFIGURATION"),
+    ("MIN_STATE_OBSERVATIONS", "crates/config/src/lib.rt", "MIN_STATE_OBSERVATIONS"),
+    ("MAX_QUOTE_GAP_MS", "crates/config/src/lib.rt", "MAX_QUOTE_GAP_MS"),
+    ("MAX_STATES", "crates/config/src/inner.rt", "MAX_STATES"),
+    ("IMAGE_HEADER", "crates/layout/src/lib.rt", "LENGTH"),
+]
 
 C_TYPES = {"u8": "uint8_t", "u64": "uint64_t", "i64": "int64_t", "f64": "double", "usize": "size_t"}
 
@@ -71,18 +86,29 @@ def exported(archive):
     return {line.split()[2] for line in lines.stdout.splitlines() if len(line.split()) == 3}
 
 
-def constants(header):
+def numbers_in(header):
     return {name: int(number) for name, number in re.findall(r"#define MICRO_PRICE_(\w+) (\d+)", header)}
 
 
+def cases(source, enum):
+    """{NAME_OF_A_CASE: number}, by the match that numbers an enum's cases."""
+    found = re.findall(enum + r"::(\w+)(?:\(_\))? => (\d+),", source)
+    return {re.sub(r"(?<!^)([A-Z])", r"_\1", name).upper(): int(number) for name, number in found}
+
+
+def constant(source, name):
+    return int(re.search(rf"const {name}: u64 = ([\d_]+);", source)[1].replace("_", ""))
+
+
 def numbers(tree):
-    """The numbers of refusals, and of bad words, as the crates have them."""
-    matches = re.findall(r"Refusal::(\w+)(?:\(_\))? => (\d+),", (tree / "crates/refusals/src/lib.rt").read_text())
-    found = {re.sub(r"(?<!^)([A-Z])", r"_\1", name).upper(): int(number) for name, number in matches}
-    bad = re.search(r"const BAD_ENCODING: u64 = (\d+);", (tree / "crates/encoding/src/lib.rt").read_text())
-    found["BAD_ENCODING"] = int(bad[1])
-    other = re.search(r"const OTHER_CONFIGURATION: u64 = (\d+);", (tree / "crates/replay/src/inner.rt").read_text())
-    found["OTHER_CONFIGURATION"] = int(other[1])
+    """The header's numbers as the crates have them. A fallback's source is its status."""
+    found = cases((tree / "crates/refusals/src/lib.rt").read_text(), "Refusal")
+    found |= {name: constant((tree / file).read_text(), inner) for name, file, inner in CONSTANTS}
+    statuses = cases((tree / "crates/model/src/inner.rt").read_text(), "StateStatus")
+    sources = cases((tree / "crates/signals/src/inner.rt").read_text(), "SignalSource")
+    sources |= {name: number for name, number in statuses.items() if name != "CALIBRATED"}
+    found |= {"STATUS_" + name: number for name, number in statuses.items()}
+    found |= {"SOURCE_" + name: number for name, number in sources.items()}
     return found
 
 
@@ -118,8 +144,8 @@ def main():
     symbols = exported(archive)
     found += [f"{name} is declared and the archive does not export it" for name in sorted(header.keys() - symbols)]
     found += [f"the archive exports {name}, which is not declared" for name in sorted(symbols - header.keys())]
-    ours, theirs = constants(text), numbers(tree)
-    for name in sorted(ours.keys() | theirs.keys()):
+    ours, theirs = numbers_in(text), numbers(tree)
+    for name in sorted((ours.keys() | theirs.keys()) - RUN):
         if ours.get(name) != theirs.get(name):
             found.append(f"MICRO_PRICE_{name} is {ours.get(name)} in the header and {theirs.get(name)} in the crates")
     for line in found:
