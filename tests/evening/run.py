@@ -63,9 +63,9 @@ def printed_endless(program):
 
 
 def said_unread(program):
-    """What it prints, and says on standard error, where standard input is closed."""
+    """What it prints, what it says on standard error and how it ends, where standard input is closed."""
     ran = subprocess.run(["sh", "-c", 'exec "$0" <&-', program], capture_output=True, timeout=60)
-    return ran.stdout, ran.stderr
+    return ran.stdout, ran.stderr, ran.returncode
 
 
 def main():
@@ -79,7 +79,7 @@ def main():
         "a byte at a time": (printed_slowly(program, cases["example"]), wanted["example"]),
         "ten million bytes": (printed(program, b"1 " * 5_000_000), BAD),
         "an input without end": (printed_endless(program), BAD),
-        "a closed input": (said_unread(program), (b"", b"evening_main: cannot read standard input\n")),
+        "a closed input": (said_unread(program), (b"", b"evening_main: cannot read standard input\n", 0)),
     }
     missed += [f"{what}: prints something else" for what, (got, want) in others.items() if got != want]
     for line in missed:
