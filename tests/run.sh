@@ -5,7 +5,7 @@
 # What a test prints is in target/tests/NAME. The last line says how many passed; the exit status is 0 if all did. It needs rt,
 # Rust 1.95 or newer and Debian, whose packages it installs with apt-get, as root, where they are missing.
 set -u
-cd "$(dirname "$0")/.."
+cd "$(dirname "$0")/.." || exit 1
 logs=target/tests
 chosen=" $* "
 known=" library evening_main "

@@ -71,7 +71,7 @@ def places(line, width, walk, shift):
     return out
 
 def wrap_code(line, width):
-    """Breaks at the least depth that serves. A clause breaks after its `=` first. A walk by hand (steps `.. ! .. $`) breaks after a `$`, and stays flush."""
+    """Breaks at the least depth that serves. A clause breaks after its `=` first. A walk over a lent record (steps `.. ! .. $`) breaks after a `$`, and stays flush."""
     out, line, base = after_equals(line, width)
     walk = re.search(r" ! .*\$", line)
     step = 0 if line.lstrip()[:1] in OPEN else 1

@@ -25,13 +25,13 @@ extern const uint64_t small_config[MICRO_PRICE_CONFIG_WORDS];
  * that of state 1, at time 2000. */
 void put_one_pair(struct counts *c);
 
-/* Makes 6, 9, 10 and 11 hold of counts in which state 0 and its mirror n - 1 are not counted. */
+/* Makes 6, 9, 10 and 11 hold of counts whose skips, stay(0, 0), moved(0, 1) and totals of states 0 and 1 are zero. */
 void break_counts(struct counts *c);
 
-/* Runs with 6, 9, 10 and 11, by each cause. `c` is broken, and mended in the end. */
+/* Runs with 6, 9, 10 and 11, by each cause. The counts are mended in the end. */
 void run_broken_counts(void (*run)(void), struct counts *c, size_t n, size_t states);
 
-/* Makes 8 hold by each of 2, 3 and 4, and runs with each. */
+/* Makes 8 hold by each of 2, 3 and 4, and runs with each. The quote is mended in the end. */
 void break_last_quote(struct counts *c);
 void run_broken_last_quote(void (*run)(void), struct counts *c);
 

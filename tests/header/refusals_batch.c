@@ -61,7 +61,8 @@ void chain_of_window_of(void) {
 #define MIDDLE 6
 #define LOW 1
 #define HIGH 999999999
-/* A change of HIGH - LOW ticks for each quote of the long part but the first: one more takes the total of state 0 over 2^53. */
+/* Each quote of the long part but the first changes the mid by 2 * (HIGH - LOW) half ticks; the last takes the total of state 0
+ * over 2^53. */
 #define LONG_PART (TWO_TO_53 / (2 * (HIGH - LOW)) + 2)
 #define OBSERVED 20000
 /* An invalid quote; a pair outside the quotes; a pair for 18; the pairs of three states for 17; the long part for 6. */

@@ -22,6 +22,11 @@
 //!
 //! The proofs are about the functions that are called. This crate lends them memory of its own, so no pointer or length is the
 //! caller's to get right; that it does is not proved.
+//!
+//! [`Calibrator::fit`], [`calibrate`], [`Model::check`] and [`Model::signal`] rest on binary64 rounded to nearest, subnormals
+//! kept, floating-point exceptions masked. Rust asks that of every program, and no Rust code changes it; a C or C++ part of the
+//! same process may, as one linked with `-ffast-math` does. `include/micro_price_env.h` has the C functions that set it and put
+//! it back. The other functions of the header have no floating-point instruction.
 
 mod calibrator;
 mod config;
