@@ -2,39 +2,10 @@
 # Shows that run.sh can fail: it must pass on a copy of the files that it reads, and refuse each change below made in such a copy;
 # instructions.py must refuse each archive below.
 set -eu
-here=$(cd "$(dirname "$0")" && pwd)
-root=$(cd "$here/../.." && pwd)
-work=$(mktemp -d)
-trap 'rm -rf "$work"' EXIT
-archive=${MICRO_PRICE_LIB:-$root/target/staticlib/libmicro_price.a}
-export MICRO_PRICE_LIB="$archive"
-missed=0
-
-# must_fail WHAT COMMAND..: says why it does.
-must_fail() {
-    what=$1
-    shift
-    if "$@" >"$work/said" 2>"$work/why"; then
-        echo "NOT REFUSED: $what"
-        missed=1
-    else
-        echo "refused: $what"
-        grep '^environment:' "$work/why" | head -n 2 | sed "s|$work/||g; s/^/    /"
-    fi
-}
-
-copy() {
-    rm -rf "$work/tree"
-    mkdir -p "$work/tree"
-    (cd "$root" && tar cf - include) | (cd "$work/tree" && tar xf -)
-}
-
-# refused WHAT FILE OLD NEW: with OLD replaced by NEW in FILE.
-refused() {
-    copy
-    "$root/tests/comparison/replace_once.pl" "$work/tree/$2" "$3" "$4"
-    must_fail "$1" "$here/run.sh" "$work/tree"
-}
+name=environment
+files=include
+# shellcheck source=tests/common/can_fail.sh
+. "$(dirname "$0")/../common/can_fail.sh"
 
 # refused_code WHAT TEXT: an archive with a member more, compiled from TEXT, and its symbols local.
 refused_code() {
@@ -55,8 +26,7 @@ refused_names() {
 
 env=include/micro_price_env.h
 header=include/micro_price.h
-copy
-"$here/run.sh" "$work/tree" >"$work/said"
+passes
 refused "a control word that flushes results to zero" $env '0x1f80u' '0x9f80u'
 refused "a control word that takes subnormals as zero" $env '0x1f80u' '0x1fc0u'
 refused "a control word that rounds up" $env '0x1f80u' '0x5f80u'

@@ -23,7 +23,7 @@ static uint64_t chain_stay[CHAIN * CHAIN];
 static uint64_t chain_moved[CHAIN * CHAIN];
 static int64_t chain_totals[CHAIN];
 static double chain_scratch[CHAIN * (2 * CHAIN + 10)];
-static uint64_t chain_model[ROW * CHAIN];
+static uint64_t chain_model[ROW_WORDS * CHAIN];
 
 static void make_chain(void) {
     size_t link;
@@ -46,11 +46,11 @@ static void make_chain(void) {
 
 static uint64_t fit_chain(void) {
     return micro_price_fit_counts(chain_config, 5, chain_rec, 10, chain_stay, CHAIN * CHAIN, chain_moved, CHAIN * CHAIN,
-                                  chain_totals, CHAIN, chain_scratch, CHAIN * (2 * CHAIN + 10), chain_model, ROW * CHAIN);
+                                  chain_totals, CHAIN, chain_scratch, CHAIN * (2 * CHAIN + 10), chain_model, ROW_WORDS * CHAIN);
 }
 
 static uint64_t chain_adjustment(size_t state) {
-    return chain_model[ROW * state + ADJUSTMENT];
+    return chain_model[ROW_WORDS * state + ROW_ADJUSTMENT];
 }
 
 /* By hand: K is 0 but for the last link, -1 there; Q is 2^-44 from link to link, so G1 of a link that is k before the last is
@@ -58,7 +58,7 @@ static uint64_t chain_adjustment(size_t state) {
  * (own - mirrored) / 2 * (tick / 2) = G1. At k = 24 that is -2^-1056, a subnormal: bit 18 of the fraction. */
 static uint64_t by_hand(size_t before_last) {
     uint64_t power = 44 * before_last;
-    return SIGN | (power < 1023 ? (1023 - power) << 52 : LEAST << (1074 - power));
+    return SIGN | (power < 1023 ? (1023 - power) << 52 : LEAST_FLOAT << (1074 - power));
 }
 
 static int chain_by_hand(void) {
@@ -72,11 +72,11 @@ static int chain_by_hand(void) {
 }
 
 static void check_in_both(void) {
-    uint64_t model[ROW * STATES];
+    uint64_t model[ROW_WORDS * STATES];
     uint64_t row = 77;
     uint32_t was;
     uint64_t answer;
-    adjusted(model, 3, LEAST, 5, SIGN | LEAST);
+    adjusted(model, 3, LEAST_FLOAT, 5, SIGN | LEAST_FLOAT);
     expect(check(model, &row) == 0, "check_model", "outside of the pair Rare rows adjusted by 2^-1074 are accepted");
     was = micro_price_env_set();
     answer = check(model, &row);
@@ -97,7 +97,7 @@ static void fit_chain_in_both(void) {
 
 static void fit_example(void) {
     struct calibrator c;
-    uint64_t model[ROW * STATES];
+    uint64_t model[ROW_WORDS * STATES];
     uint64_t answer;
     uint32_t was;
     memset(model, 0xa5, sizeof model);
@@ -110,11 +110,11 @@ static void fit_example(void) {
 }
 
 static void look_at_the_word(void) {
-    uint64_t model[ROW * STATES];
+    uint64_t model[ROW_WORDS * STATES];
     uint64_t row;
     uint32_t before = _mm_getcsr() & ~FLAGS;
     uint32_t was, inside, raised;
-    adjusted(model, 3, LEAST, 5, SIGN | LEAST);
+    adjusted(model, 3, LEAST_FLOAT, 5, SIGN | LEAST_FLOAT);
     _mm_setcsr(before);
     was = micro_price_env_set();
     inside = _mm_getcsr();

@@ -25,7 +25,7 @@ static const uint64_t quotes[5 * QUOTES] = {
 #define SIXTH 0x3fc5555555555555u
 
 static struct calibrator counted;
-static uint64_t model[ROW * STATES];
+static uint64_t model[ROW_WORDS * STATES];
 static uint64_t row;
 
 static uint64_t fits(void) {
@@ -36,7 +36,7 @@ static uint64_t calibrates(void) {
     static struct calibrator c;
     uint64_t invalid;
     return micro_price_calibrate(example_config, 5, c.rec, 10, c.stay, CELLS, c.moved, CELLS, c.totals, STATES, quotes, 5 * QUOTES,
-                                 0, 5000, example_scratch, SCRATCH, model, ROW * STATES, &invalid);
+                                 0, 5000, example_scratch, SCRATCH, model, ROW_WORDS * STATES, &invalid);
 }
 
 static uint64_t checks(void) {
@@ -45,7 +45,7 @@ static uint64_t checks(void) {
 
 static uint64_t signals(void) {
     uint64_t out[4];
-    return micro_price_signal(example_config, 5, model, ROW * STATES, 7, 100, 101, 9, 1, out, 4, &row);
+    return micro_price_signal(example_config, 5, model, ROW_WORDS * STATES, 7, 100, 101, 9, 1, out, 4, &row);
 }
 
 static uint64_t inside(uint64_t (*call)(void)) {
@@ -56,11 +56,11 @@ static uint64_t inside(uint64_t (*call)(void)) {
 }
 
 static uint64_t first_of(size_t state) {
-    return model[ROW * state + FIRST_ADJUSTMENT];
+    return model[ROW_WORDS * state + ROW_FIRST];
 }
 
 static uint64_t last_of(size_t state) {
-    return model[ROW * state + ADJUSTMENT];
+    return model[ROW_WORDS * state + ROW_ADJUSTMENT];
 }
 
 static int are_sixths(void) {
@@ -112,7 +112,7 @@ int main(void) {
     /* -1/2 + 2^-60 is inexact. */
     adjusted(model, 0, SIGN | HALF, 2, (uint64_t)(1023 - 60) << 52);
     traps(checks, MICRO_PRICE_MODEL_ROW, _MM_MASK_INEXACT, "check_model, inexact");
-    adjusted(model, 0, SIGN | LEAST, 2, LEAST);
+    adjusted(model, 0, SIGN | LEAST_FLOAT, 2, LEAST_FLOAT);
     traps(checks, 0, _MM_MASK_DENORM, "check_model, subnormal");
     traps(signals, 0, _MM_MASK_DENORM, "signal, subnormal");
     return failed;

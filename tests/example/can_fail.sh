@@ -1,37 +1,12 @@
 #!/bin/sh
 # Shows that run.sh can fail: it must pass on a copy of the files that it reads, and refuse each change below made in such a copy.
 set -eu
-here=$(cd "$(dirname "$0")" && pwd)
-root=$(cd "$here/../.." && pwd)
-work=$(mktemp -d)
-trap 'rm -rf "$work"' EXIT
-export MICRO_PRICE_LIB="${MICRO_PRICE_LIB:-$root/target/staticlib/libmicro_price.a}"
-missed=0
+name=example
+files="README.md include examples/c bindings/rust/src/refusal.rs tests/example/expected"
+# shellcheck source=tests/common/can_fail.sh
+. "$(dirname "$0")/../common/can_fail.sh"
 
-copy() {
-    rm -rf "$work/tree"
-    mkdir -p "$work/tree"
-    (cd "$root" && tar cf - README.md include examples/c bindings/rust/src/refusal.rs tests/example/expected) |
-        (cd "$work/tree" && tar xf -)
-}
-
-# refused WHAT FILE OLD NEW: with OLD replaced by NEW in FILE; says why.
-refused() {
-    copy
-    "$root/tests/comparison/replace_once.pl" "$work/tree/$2" "$3" "$4"
-    if "$here/run.sh" "$work/tree" >"$work/said" 2>&1; then
-        echo "NOT REFUSED: $1"
-        missed=1
-    else
-        echo "refused: $1"
-        grep -E '^(<|>|example:)|error:|ERROR:' "$work/said" | grep -v -E 'prints what is expected|speak as' | head -n 3 |
-            sed "s|$work/||g; s/^/    /"
-    fi
-}
-
-copy
-"$here/run.sh" "$work/tree"
-
+passes
 day=examples/c/day.c
 helpers=include/micro_price_helpers.h
 expected=tests/example/expected

@@ -79,17 +79,18 @@ def run_faults(name, table, runs):
 
 
 def around(table, number):
-    """The numbers before and after one in a table, and whether what is written is that of the one before."""
-    place = [line.number for line in table].index(number)
-    before, line, after = table[place - 1:place + 2]
+    """The numbers before and after one in a table, and whether what is written is that of the one before; None if it is not there."""
+    numbers = [line.number for line in table]
+    if number not in numbers:
+        return None
+    before, line, after = table[numbers.index(number) - 1:numbers.index(number) + 2]
     return before.number, after.number, line.writes == before.writes
 
 
 def not_met_faults(tables):
     for (name, number), other in NOT_MET.items():
-        ours, theirs = around(tables[name], number), around(tables[other], number)
-        if ours != theirs:
-            yield f"{name} has {number} between {ours[0]} and {ours[1]}, or with other memory; {other} between {theirs[0]} and {theirs[1]}"
+        if around(tables[name], number) != around(tables[other], number):
+            yield f"{name} has {number} in another place than {other}, or with other memory"
 
 
 def main():

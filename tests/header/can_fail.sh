@@ -1,50 +1,22 @@
 #!/bin/sh
 # Shows that run.sh can fail: it must pass on a copy of the files that it reads, and refuse each change below made in such a copy.
 set -eu
-here=$(cd "$(dirname "$0")" && pwd)
-root=$(cd "$here/../.." && pwd)
-work=$(mktemp -d)
-trap 'rm -rf "$work"' EXIT
-archive=${MICRO_PRICE_LIB:-$root/target/staticlib/libmicro_price.a}
-export MICRO_PRICE_LIB="$archive"
-missed=0
-
-# must_fail WHAT TREE: run.sh must fail on TREE; says why it does.
-must_fail() {
-    if "$here/run.sh" "$2" >"$work/said" 2>&1; then
-        echo "NOT REFUSED: $1"
-        missed=1
-    else
-        echo "refused: $1"
-        grep -E '^(header:|[<>] )' "$work/said" | grep -v -E '^header: ([0-9]+ |each |the sizes |the compiler )' | head -n 2 |
-            sed 's/^/    /'
-    fi
-}
-
-copy() {
-    rm -rf "$work/tree"
-    mkdir -p "$work/tree"
-    (cd "$root" && tar cf - include docs/PROMISES.md crates/*/src bindings/rust/src) | (cd "$work/tree" && tar xf -)
-}
-
-# refused WHAT FILE OLD NEW: with OLD replaced by NEW in FILE.
-refused() {
-    copy
-    "$root/tests/comparison/replace_once.pl" "$work/tree/$2" "$3" "$4"
-    must_fail "$1" "$work/tree"
-}
+name=header
+files="include docs/PROMISES.md crates/*/src bindings/rust/src"
+# shellcheck source=tests/common/can_fail.sh
+. "$(dirname "$0")/../common/can_fail.sh"
 
 # refused_in_both WHAT OLD NEW OLD NEW: in the header, and in PROMISES.md.
 refused_in_both() {
     copy
-    "$root/tests/comparison/replace_once.pl" "$work/tree/$header" "$2" "$3"
-    "$root/tests/comparison/replace_once.pl" "$work/tree/$promises" "$4" "$5"
-    must_fail "$1" "$work/tree"
+    change $header "$2" "$3"
+    change $promises "$4" "$5"
+    must_fail "$1" "$here/run.sh" "$work/tree"
 }
 
 header=include/micro_price.h
-copy
-"$here/run.sh" "$work/tree"
+promises=docs/PROMISES.md
+passes
 refused "a function less" $header \
     'uint64_t micro_price_validate(const uint64_t *config, size_t config_len);' ''
 refused "a function more" $header \
@@ -76,7 +48,6 @@ refused "totals without a sign in Rust" bindings/rust/src/sys.rs \
         out: *mut u8,'
 
 # Lists of answers, and what is written at each.
-promises=docs/PROMISES.md
 refused "a refusal left out" $header '100, 1, 7, 8, 2, 3, 4, 5, 6 ' '100, 1, 7, 8, 2, 3, 4, 6 '
 refused "a refusal in another place" $header '100, 1, 7, 8, 6, 9, 10, 11 ' '100, 1, 7, 6, 8, 9, 10, 11 '
 refused "a refusal more" $header '100, 1, 7, 2, 3, 4 ' '100, 1, 7, 2, 3, 4, 5 '
@@ -86,6 +57,8 @@ refused_in_both "a refusal left out of both" '7, 14, 15  ' '7, 14  ' '| 7, 14, 1
 refused_in_both "a refusal in another place in both" '7, 14, 15  ' '7, 15, 14  ' '| 7, 14, 15, 0 |' '| 7, 15, 14, 0 |'
 refused_in_both "19 in another place in both, which no run meets" '16 (none to fit), 17, 18, 19         rec' \
     '16 (none to fit), 19, 17, 18         rec' '2, 6, 16, 17, 18, 19, 16, 0' '2, 6, 16, 19, 17, 18, 16, 0'
+refused_in_both "19 left out of both, which no run meets" '16 (none to fit), 17, 18, 19         rec' \
+    '16 (none to fit), 17, 18             rec' '2, 6, 16, 17, 18, 19, 16, 0' '2, 6, 16, 17, 18, 16, 0'
 refused "a table that the header does not name as written" $header \
     '2, 6                                 rec, stay, moved, move_half_ticks' '2, 6                                 rec, stay, moved'
 refused "scratch that is said to stay at 16" $header \
@@ -129,10 +102,10 @@ uint64_t micro_price_observe(' 'uint64_t micro_price_observe('
 
 MICRO_PRICE_LIB=$work/less.a
 objcopy --localize-symbol=micro_price_save "$archive" "$MICRO_PRICE_LIB"
-must_fail "an archive without a function" "$root"
+must_fail "an archive without a function" "$here/run.sh"
 MICRO_PRICE_LIB=$work/more.a
 cp "$archive" "$MICRO_PRICE_LIB"
 echo 'int micro_price_fit(void) { return 0; }' | gcc -x c -c - -o "$work/more.o"
 ar r "$MICRO_PRICE_LIB" "$work/more.o"
-must_fail "an archive with a function more" "$root"
+must_fail "an archive with a function more" "$here/run.sh"
 exit $missed

@@ -1,17 +1,14 @@
-/* Includes the header alone and calls each function, in C and in C++. The results are those of document 01's example. The exit
- * status is 0, or the number of the first check that fails. */
+/* Includes the header before all else and calls each function, in C and in C++. The results are those of document 01's example. The
+ * exit status is 0, or the number of the first check that fails. */
 #include "micro_price.h"
 
-#define STATES 6
+#include "document_01.h"
+
+#define STATES EXAMPLE_STATES
 #define CELLS (STATES * STATES)
 #define IMAGE (160 + 16 * CELLS + 8 * STATES)
 #define SCRATCH (STATES * (2 * STATES + 10))
-#define HALF 0x3fe0000000000000u
-#define MINUS_HALF 0xbfe0000000000000u
-#define ONE 0x3ff0000000000000u
 
-/* Tick, n, s, least observations, gap. */
-static uint64_t config[5] = {1, 3, 2, 1, 1000};
 static const uint64_t even[5] = {1, 4, 2, 1, 1000};
 
 static uint64_t rec[10];
@@ -28,17 +25,6 @@ static int64_t totals_back[STATES];
 
 static double scratch[SCRATCH];
 static uint64_t model[7 * STATES];
-
-static const uint64_t recording[10] = {0, 100, 101, 9, 1, 1, 100, 102, 5, 5};
-
-static const uint64_t example[7 * STATES] = {
-    1, 1, 1, MINUS_HALF, MINUS_HALF, ONE, 0, /* state 0 */
-    2, 1, 0, 0, 0, ONE, 1,                   /* state 1 */
-    3, 1, 1, HALF, HALF, ONE, 0,             /* state 2 */
-    1, 2, 0, 0, 0, ONE, 1,                   /* state 3 */
-    2, 2, 0, 0, 0, ONE, 1,                   /* state 4 */
-    3, 2, 0, 0, 0, ONE, 1,                   /* state 5 */
-};
 
 static int same(const uint64_t *a, const uint64_t *b, size_t count) {
     size_t i;
@@ -65,12 +51,12 @@ static uint64_t sum(const uint64_t *table, size_t count) {
 }
 
 static uint64_t observe(const uint64_t *q) {
-    return micro_price_observe(config, 5, rec, 10, stay, CELLS, moved, CELLS, totals, STATES, q[0], q[1], q[2], q[3], q[4]);
+    return micro_price_observe(example_config, 5, rec, 10, stay, CELLS, moved, CELLS, totals, STATES, q[0], q[1], q[2], q[3], q[4]);
 }
 
 static int validates(void) {
-    return micro_price_validate(config, 5) == 0 && micro_price_validate(even, 5) == MICRO_PRICE_CONFIGURATION
-        && micro_price_validate(config, 4) == MICRO_PRICE_BAD_ENCODING;
+    return micro_price_validate(example_config, 5) == 0 && micro_price_validate(even, 5) == MICRO_PRICE_CONFIGURATION
+        && micro_price_validate(example_config, 4) == MICRO_PRICE_BAD_ENCODING;
 }
 
 /* Memory that was not cleared. */
@@ -93,26 +79,26 @@ static int starts(void) {
         return 0;
     stay[7] = moved[8] = 9;
     totals[1] = -9;
-    answer = micro_price_new(config, 5, rec, 10, stay, CELLS, moved, CELLS, totals, STATES);
+    answer = micro_price_new(example_config, 5, rec, 10, stay, CELLS, moved, CELLS, totals, STATES);
     return answer == 0 && sum(stay, CELLS) == 0 && sum(moved, CELLS) == 0 && totals[1] == 0 && sum(rec, 10) == 0;
 }
 
 /* States 2 and 4, mids of 201 and 202 half ticks. */
 static int observes(void) {
     static const uint64_t wanted[10] = {1, 1, 100, 102, 5, 5, 1, 0, 0, 1};
-    if (observe(recording) != 0 || observe(recording + 5) != 0)
+    if (observe(example_quotes) != 0 || observe(example_quotes + 5) != 0)
         return 0;
-    if (observe(recording) != MICRO_PRICE_EARLIER_TIME)
+    if (observe(example_quotes) != MICRO_PRICE_EARLIER_TIME)
         return 0;
     return same(rec, wanted, 10) && sum(stay, CELLS) == 0 && sum(moved, CELLS) == 2 && moved[2 * STATES + 4] == 1
         && moved[0 * STATES + 4] == 1 && totals[2] == 1 && totals[0] == -1;
 }
 
 static int saves(void) {
-    if (micro_price_save(config, 5, rec, 10, stay, CELLS, moved, CELLS, totals, STATES, image, IMAGE - 1)
+    if (micro_price_save(example_config, 5, rec, 10, stay, CELLS, moved, CELLS, totals, STATES, image, IMAGE - 1)
         != MICRO_PRICE_SLICE_LENGTH)
         return 0;
-    if (micro_price_save(config, 5, rec, 10, stay, CELLS, moved, CELLS, totals, STATES, image, IMAGE) != 0)
+    if (micro_price_save(example_config, 5, rec, 10, stay, CELLS, moved, CELLS, totals, STATES, image, IMAGE) != 0)
         return 0;
     /* N, n, s; the total of state 0 is minus one. */
     return image[0] == 6 && image[8] == 3 && image[16] == 2 && image[IMAGE - 8 * STATES] == 255;
@@ -127,29 +113,29 @@ static int restores(void) {
     if (micro_price_restore(image, IMAGE, config_back, 5, rec_back, 10, stay_back, CELLS, moved_back, CELLS, totals_back, STATES)
         != 0)
         return 0;
-    return same(config_back, config, 5) && same(rec_back, rec, 10) && same(stay_back, stay, CELLS)
+    return same(config_back, example_config, 5) && same(rec_back, rec, 10) && same(stay_back, stay, CELLS)
         && same(moved_back, moved, CELLS) && same_totals(totals_back, totals);
 }
 
 static int fits(void) {
     size_t i;
     scratch[3] = 4.0;
-    if (micro_price_fit_counts(config, 5, rec, 10, stay, CELLS, moved, CELLS, totals, STATES, scratch, SCRATCH, model,
+    if (micro_price_fit_counts(example_config, 5, rec, 10, stay, CELLS, moved, CELLS, totals, STATES, scratch, SCRATCH, model,
                                7 * STATES)
         != 0)
         return 0;
     for (i = 0; i < SCRATCH; i++)
         if (scratch[i] != 0.0)
             return 0;
-    return same(model, example, 7 * STATES);
+    return same(model, example_model, 7 * STATES);
 }
 
 static int checks(void) {
     uint64_t row = 77;
-    if (micro_price_check_model(config, 5, model, 7 * STATES, &row) != 0 || row != 77)
+    if (micro_price_check_model(example_config, 5, model, 7 * STATES, &row) != 0 || row != 77)
         return 0;
     model[7 * 4] = 3;
-    if (micro_price_check_model(config, 5, model, 7 * STATES, &row) != MICRO_PRICE_MODEL_ROW || row != 4)
+    if (micro_price_check_model(example_config, 5, model, 7 * STATES, &row) != MICRO_PRICE_MODEL_ROW || row != 4)
         return 0;
     model[7 * 4] = 2;
     return 1;
@@ -161,13 +147,13 @@ static int signals(void) {
     static const uint64_t wide[4] = {9, 203, 0, 4};
     uint64_t out[4];
     uint64_t row = 77;
-    if (micro_price_signal(config, 5, model, 7 * STATES, 7, 100, 101, 9, 1, out, 4, &row) != 0 || !same(out, micro_price, 4))
+    if (micro_price_signal(example_config, 5, model, 7 * STATES, 7, 100, 101, 9, 1, out, 4, &row) != 0 || !same(out, micro_price, 4))
         return 0;
-    if (micro_price_signal(config, 5, model, 7 * STATES, 8, 100, 101, 5, 5, out, 4, &row) != 0 || !same(out, rare, 4))
+    if (micro_price_signal(example_config, 5, model, 7 * STATES, 8, 100, 101, 5, 5, out, 4, &row) != 0 || !same(out, rare, 4))
         return 0;
-    if (micro_price_signal(config, 5, model, 7 * STATES, 9, 100, 103, 5, 5, out, 4, &row) != 0 || !same(out, wide, 4))
+    if (micro_price_signal(example_config, 5, model, 7 * STATES, 9, 100, 103, 5, 5, out, 4, &row) != 0 || !same(out, wide, 4))
         return 0;
-    if (micro_price_signal(config, 5, model, 7 * STATES, 9, 101, 101, 5, 5, out, 4, &row) != MICRO_PRICE_BAD_QUOTE)
+    if (micro_price_signal(example_config, 5, model, 7 * STATES, 9, 101, 101, 5, 5, out, 4, &row) != MICRO_PRICE_BAD_QUOTE)
         return 0;
     return row == 77;
 }
@@ -175,11 +161,11 @@ static int signals(void) {
 static int finds_windows(void) {
     uint64_t first = 77;
     uint64_t past = 77;
-    if (micro_price_window_of(recording, 9, 0, 10, &first, &past) != MICRO_PRICE_SLICE_LENGTH || first != 77 || past != 77)
+    if (micro_price_window_of(example_quotes, 9, 0, 10, &first, &past) != MICRO_PRICE_SLICE_LENGTH || first != 77 || past != 77)
         return 0;
-    if (micro_price_window_of(recording, 10, 2, 1, &first, &past) != MICRO_PRICE_WINDOW_BACKWARD)
+    if (micro_price_window_of(example_quotes, 10, 2, 1, &first, &past) != MICRO_PRICE_WINDOW_BACKWARD)
         return 0;
-    return micro_price_window_of(recording, 10, 1, 2, &first, &past) == 0 && first == 1 && past == 2;
+    return micro_price_window_of(example_quotes, 10, 1, 2, &first, &past) == 0 && first == 1 && past == 2;
 }
 
 static int calibrates(void) {
@@ -188,22 +174,22 @@ static int calibrates(void) {
     for (i = 0; i < 7 * STATES; i++)
         model[i] = 0;
     soil(rec_back);
-    if (micro_price_calibrate(config, 5, rec_back, 10, stay_back, CELLS, moved_back, CELLS, totals_back, STATES, recording, 9, 1,
+    if (micro_price_calibrate(example_config, 5, rec_back, 10, stay_back, CELLS, moved_back, CELLS, totals_back, STATES, example_quotes, 9, 1,
                               10, scratch, SCRATCH, model, 7 * STATES, &invalid)
             != MICRO_PRICE_SLICE_LENGTH
         || invalid != 77 || !soiled(rec_back))
         return 0;
-    if (micro_price_calibrate(config, 5, rec_back, 10, stay_back, CELLS, moved_back, CELLS, totals_back, STATES, recording, 10, 1,
+    if (micro_price_calibrate(example_config, 5, rec_back, 10, stay_back, CELLS, moved_back, CELLS, totals_back, STATES, example_quotes, 10, 1,
                               10, scratch, SCRATCH, model, 7 * STATES, &invalid)
             != MICRO_PRICE_NO_CALIBRATED_STATE
         || invalid != 0 || rec_back[6] != 0)
         return 0;
-    if (micro_price_calibrate(config, 5, rec_back, 10, stay_back, CELLS, moved_back, CELLS, totals_back, STATES, recording, 10, 0,
+    if (micro_price_calibrate(example_config, 5, rec_back, 10, stay_back, CELLS, moved_back, CELLS, totals_back, STATES, example_quotes, 10, 0,
                               10, scratch, SCRATCH, model, 7 * STATES, &invalid)
             != 0
         || invalid != 0)
         return 0;
-    return same(model, example, 7 * STATES) && same(rec_back, rec, 10) && same(moved_back, moved, CELLS);
+    return same(model, example_model, 7 * STATES) && same(rec_back, rec, 10) && same(moved_back, moved, CELLS);
 }
 
 /* A quote, a save, a bad quote, the image back. */
@@ -216,10 +202,10 @@ static int replays(void) {
     };
     static const uint64_t wanted[4] = {0, 0, MICRO_PRICE_BAD_QUOTE, 0};
     uint64_t answers[4] = {77, 77, 77, 77};
-    if (micro_price_replay(config, 5, rec, 10, stay, CELLS, moved, CELLS, totals, STATES, calls, 24, image, IMAGE, answers, 3)
+    if (micro_price_replay(example_config, 5, rec, 10, stay, CELLS, moved, CELLS, totals, STATES, calls, 24, image, IMAGE, answers, 3)
         != MICRO_PRICE_BAD_ENCODING)
         return 0;
-    if (micro_price_replay(config, 5, rec, 10, stay, CELLS, moved, CELLS, totals, STATES, calls, 24, image, IMAGE, answers, 4)
+    if (micro_price_replay(example_config, 5, rec, 10, stay, CELLS, moved, CELLS, totals, STATES, calls, 24, image, IMAGE, answers, 4)
         != 0)
         return 0;
     return same(answers, wanted, 4) && rec[6] == 2 && stay[4 * STATES + 4] == 2;

@@ -242,6 +242,14 @@ void run_wrong_tables(void (*run)(void), size_t states) {
     lent.move_half_ticks_len = states;
 }
 
+void run_wrong_slices_of_fit(void (*run)(void), size_t states) {
+    run_wrong_tables(run, states);
+    run();
+    lent.scratch_len = MICRO_PRICE_SCRATCH(states);
+    run();
+    lent.model_len = MICRO_PRICE_MODEL(states);
+}
+
 int scratch_is_zero(void) {
     size_t i;
     for (i = 0; i < lent.scratch_len; i++) {

@@ -78,12 +78,14 @@ void after_call(const char *function, uint64_t answer);
 uint64_t aside(void (*run)(void));
 
 /* Runs with 100 by the number of words of config, and of rec; by ten words that are no record; with 1 by each rule of a
- * configuration; with 7 by each table. The cause is mended in the end, 1 by the configuration that is given. */
+ * configuration; with 7 by each table, and for a fit by scratch and model too. The cause is mended in the end, 1 by the configuration
+ * that is given. */
 void run_wrong_config(void (*run)(void));
 void run_wrong_rec(void (*run)(void));
 void run_no_record(void (*run)(void));
 void run_bad_configs(void (*run)(void), const uint64_t *mended);
 void run_wrong_tables(void (*run)(void), size_t states);
+void run_wrong_slices_of_fit(void (*run)(void), size_t states);
 
 /* A configuration that is refused by 1. */
 void lend_bad_config(void);

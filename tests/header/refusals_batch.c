@@ -213,11 +213,7 @@ void chain_of_calibrate(void) {
     lend_bad_config();
     run_bad_windows();
     run_bad_configs(calibrate, evening_config);
-    run_wrong_tables(calibrate, STATES);
-    calibrate();
-    lent.scratch_len = MICRO_PRICE_SCRATCH(STATES);
-    calibrate();
-    lent.model_len = MICRO_PRICE_MODEL(STATES);
+    run_wrong_slices_of_fit(calibrate, STATES);
     run_stopped();
     run_failed_fits();
     run_fit(1);

@@ -1,6 +1,8 @@
 /* The chains of the fit, the model check and the signal. */
 #include "refusals.h"
 
+#include "document_01.h"
+
 #include <string.h>
 
 /* ---- the fit: n = 13, s = 2 */
@@ -118,39 +120,17 @@ void chain_of_fit_counts(void) {
     run_wrong_rec(fit_counts);
     run_no_record(fit_counts);
     run_bad_configs(fit_counts, fit_config);
-    run_wrong_tables(fit_counts, STATES);
-    fit_counts();
-    lent.scratch_len = MICRO_PRICE_SCRATCH(STATES);
-    fit_counts();
-    lent.model_len = MICRO_PRICE_MODEL(STATES);
+    run_wrong_slices_of_fit(fit_counts, STATES);
     run_broken_counts(fit_counts, &lent.counts, BUCKETS_OF_FIT, STATES);
     run_failed_fits();
     run_fit();
-    expect(left.model[7 * 13 + 6] == MICRO_PRICE_STATUS_CALIBRATED, "an adjustment of half the spread is inside the quotes");
+    expect(left.model[ROW_WORDS * 13 + ROW_STATUS] == MICRO_PRICE_STATUS_CALIBRATED, "an adjustment of half the spread is inside the quotes");
 }
 
 /* ---- the model check: n = 3, s = 2, tick 1, document 01's table */
 
-#define WORDS MICRO_PRICE_ROW_WORDS
-#define SIGN ((uint64_t)1 << 63)
-#define HALF 0x3fe0000000000000u
-#define ONE 0x3ff0000000000000u
 #define INFINITE 0x7ff0000000000000u
 #define NOT_A_NUMBER 0x7ff8000000000000u
-#define LEAST_FLOAT 1u
-
-enum { ROW_BUCKET, ROW_SPREAD, ROW_OBSERVATIONS, ROW_FIRST, ROW_ADJUSTMENT, ROW_SHARE, ROW_STATUS };
-
-static const uint64_t model_config[MICRO_PRICE_CONFIG_WORDS] = {1, 3, 2, 1, 1000};
-
-static const uint64_t example[MICRO_PRICE_MODEL(IMAGED_STATES)] = {
-    1, 1, 1, SIGN | HALF, SIGN | HALF, ONE, 0, /* state 0 */
-    2, 1, 0, 0, 0, ONE, 1,                     /* state 1 */
-    3, 1, 1, HALF, HALF, ONE, 0,               /* state 2 */
-    1, 2, 0, 0, 0, ONE, 1,                     /* state 3 */
-    2, 2, 0, 0, 0, ONE, 1,                     /* state 4 */
-    3, 2, 0, 0, 0, ONE, 1,                     /* state 5 */
-};
 
 /* A word of a row, and one of another row that is changed with it. The first bad row is the first of the two. */
 struct bad_row {
@@ -197,13 +177,13 @@ static void run_bad_rows(void) {
     size_t i;
     for (i = 0; i < COUNT_OF(bad_rows); i++) {
         const struct bad_row *b = &bad_rows[i];
-        memcpy(lent.model, example, sizeof example);
-        lent.model[WORDS * b->other_row + b->other_word] = b->other_value;
-        lent.model[WORDS * b->row + b->word] = b->value;
+        memcpy(lent.model, example_model, sizeof example_model);
+        lent.model[ROW_WORDS * b->other_row + b->other_word] = b->other_value;
+        lent.model[ROW_WORDS * b->row + b->word] = b->value;
         check_model();
         expect(left.row == b->row, "13 of the model check names the first bad row");
     }
-    memcpy(lent.model, example, sizeof example);
+    memcpy(lent.model, example_model, sizeof example_model);
 }
 
 /* 7 by one word less and one more. */
@@ -220,7 +200,7 @@ void chain_of_check_model(void) {
     wrong_lengths(IMAGED_STATES);
     lend_bad_config();
     run_wrong_config(check_model);
-    run_bad_configs(check_model, model_config);
+    run_bad_configs(check_model, example_config);
     run_wrong_model(check_model);
     run_bad_rows();
     check_model();
@@ -262,7 +242,7 @@ static void run_bad_quotes(void) {
 /* 13 by the row of the quote's state alone: a status over 3; Calibrated and not finite, or over half the spread, 2.5. */
 static void run_bad_states(void) {
     static const uint64_t adjustments[] = {NOT_A_NUMBER, INFINITE, SIGN | INFINITE, 0x4004000000000001u, 0xc004000000000001u};
-    uint64_t *row = lent.model + WORDS * 2;
+    uint64_t *row = lent.model + ROW_WORDS * 2;
     size_t i;
     lend_quote(7, 100, 105, 9, 1);
     signal_of();
@@ -285,7 +265,7 @@ static void run_signals(void) {
                && left.signal[3] == MICRO_PRICE_SOURCE_MICRO_PRICE,
            "half the spread is sent as an adjustment");
     for (status = 1; status <= 3; status++) {
-        lent.model[WORDS * 2 + ROW_STATUS] = status;
+        lent.model[ROW_WORDS * 2 + ROW_STATUS] = status;
         signal_of();
         expect(left.signal[2] == 0 && left.signal[3] == status, "the source of a fallback is its status");
     }

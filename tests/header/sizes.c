@@ -89,7 +89,7 @@ static void around_tables(uint64_t (*call)(void), uint64_t right, const char *wh
 }
 
 static void lend(uint64_t n, uint64_t s) {
-    const uint64_t words[MICRO_PRICE_CONFIG_WORDS] = {1, n, s, MICRO_PRICE_MIN_STATE_OBSERVATIONS, MICRO_PRICE_MAX_QUOTE_GAP_MS};
+    const uint64_t words[MICRO_PRICE_CONFIG_WORDS] = {1, n, s, 1, 1000};
     size_t states = (size_t)(n * s);
     size_t i;
     for (i = 0; i < MICRO_PRICE_CONFIG_WORDS; i++)
