@@ -14,6 +14,7 @@ stop() {
 }
 
 [ -f "$archive" ] || stop "no archive at $archive: run 'bindings/library.sh', or set MICRO_PRICE_LIB"
+archive=$(realpath "$archive")
 work=$(mktemp -d)
 trap 'rm -rf "$work"' EXIT
 
