@@ -1,7 +1,7 @@
 #!/bin/sh
 # Proves the functions of include/micro_price.h and writes them as one archive, target/staticlib/libmicro_price.a. If the archive is
 # there and neither it, nor the crates, nor the toolchain has changed since, it does nothing. It needs rt and ar. The parts are
-# compiled apart: crates/exports_batch says why.
+# compiled apart: crates/abi_batch says why.
 set -eu
 cd "$(dirname "$0")/.."
 archive=target/staticlib/libmicro_price.a
@@ -21,18 +21,18 @@ if [ -f "$archive" ] && [ -f "$stamp" ] && [ "$(sum)" = "$(cat "$stamp")" ]; the
 fi
 
 rm -f "$archive" "$stamp"
-for part in exports exports_image exports_fit exports_models exports_batch; do
+for part in abi_counting abi_image abi_fit abi_models abi_batch; do
     rt staticlib "$part"
 done
 (
     cd target/staticlib
     ar -M <<'MRI'
 create libmicro_price.a
-addlib libexports.a
-addlib libexports_image.a
-addlib libexports_fit.a
-addlib libexports_models.a
-addlib libexports_batch.a
+addlib libabi_counting.a
+addlib libabi_image.a
+addlib libabi_fit.a
+addlib libabi_models.a
+addlib libabi_batch.a
 save
 end
 MRI

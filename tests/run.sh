@@ -49,9 +49,9 @@ bindings() (
     cd bindings/rust && cargo test --offline && cargo run --offline --example day
 )
 
-# The Rust's own functions print what linear_cases must print.
+# The Rust's own functions print what cases_linear must print.
 linear_bits() {
-    rustc -O -o "$logs/linear_bits.bin" tests/linear_bits/linear_bits.rs && "$logs/linear_bits.bin" | cmp - crates/linear_cases/stdout
+    rustc -O -o "$logs/linear_bits.bin" tests/linear_bits/linear_bits.rs && "$logs/linear_bits.bin" | cmp - crates/cases_linear/stdout
 }
 
 run library bindings/library.sh

@@ -1,5 +1,5 @@
 #!/bin/sh
-# Writes the input and the expected output of the program evening_cases. By document 01 a case named bad_.. prints `bad input` and
+# Writes the input and the expected output of the program cases_evening. By document 01 a case named bad_.. prints `bad input` and
 # one named refused_K_.. `refused K`; the script stops unless the oracle says so too. The other outputs are what the Rust answers,
 # but for the case half_spread_difference: there the Rust judges OutsideQuotes in decimals; by document 01, which judges in floats,
 # the fit answers 16 (see README.md).
@@ -7,7 +7,7 @@ set -eu
 cd "$(dirname "$0")"
 ./build.sh
 build=../../target/comparison
-to=../../crates/evening_cases
+to=../../crates/cases_evening
 
 # text NAME: the text of the case NAME.
 text() {

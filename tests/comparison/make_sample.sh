@@ -1,6 +1,8 @@
 #!/bin/sh
-# Writes sample_words.txt and sample.expected: a fixed sample of the Rust's answers over every operation. Cases that show a
-# listed difference are not in it, so that the port must answer every line as the Rust does.
+# Writes sample_words.txt and sample.expected: a fixed sample of the Rust's answers over every operation, and after it the cases
+# of fit_cases.txt. They are the input and the expected output of the program cases_sample. But for one line the port must answer
+# as the Rust does: in the case half_spread_difference the Rust judges OutsideQuotes in decimals; by document 01, which judges in
+# floats, the answer is 16 (see README.md).
 #
 # sample_words.txt has a case a line: decimal words of at most 19 digits without leading zeros, single spaces between them, one
 # newline after each line. sample.expected has the answer to each case in the line of the same number, in the same form but with
@@ -30,10 +32,15 @@
 #                                   after 0 TABLE
 #
 # Where the answer is 1, n × s is at most 27 in cases 3, 4 and 8, and the image of case 3 is as long as that of a valid n and s.
-# No case has over 27 states but the last, a fit of 255. Most in a case: 2,200 words, 350 quotes, 600 entries, 15 rows.
+# No case has over 27 states but the last of the sample, a fit of 255. Most in a case: 2,200 words, 350 quotes, 600 entries, 15 rows.
 set -eu
 cd "$(dirname "$0")"
 ./build.sh
 oracle=../../target/comparison/target/release/oracle
+to=../../crates/cases_sample
 "$oracle" sample 1 >sample_words.txt
-"$oracle" answers <sample_words.txt >sample.expected
+difference=$(($(wc -l <sample_words.txt) + $(sed -n '/^half_spread_difference:/=' fit_cases_words.txt)))
+sed 's/^[^ ]*:/4/' fit_cases_words.txt >>sample_words.txt
+sed "${difference}d" sample_words.txt | "$oracle" answers | sed "$((difference - 1))a 16" >sample.expected
+cp sample_words.txt $to/stdin
+cp sample.expected $to/stdout

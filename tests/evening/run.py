@@ -3,7 +3,7 @@
 
 Runs the evening program, target/bin/evening_main or PROGRAM, as a desk would: on standard input, through a pipe. Gives it each text of
 tests/comparison/evening_cases.txt, whose form tests/comparison/README.md describes, and holds what it prints to what
-crates/evening_cases/stdout has for that case. Then input that comes a byte at a time, input far longer than any text, an input without
+crates/cases_evening/stdout has for that case. Then input that comes a byte at a time, input far longer than any text, an input without
 end, and a standard input that cannot be read. Prints each mismatch and ends with status 1 if there is one.
 """
 import subprocess
@@ -31,7 +31,7 @@ def texts():
 def expected():
     """What is to be printed for each case."""
     found, name = {}, None
-    for line in (ROOT / "crates/evening_cases/stdout").read_text().splitlines(keepends=True):
+    for line in (ROOT / "crates/cases_evening/stdout").read_text().splitlines(keepends=True):
         if line.startswith("case "):
             name = line[5:].rstrip("\n")
             found[name] = b""

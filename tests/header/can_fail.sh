@@ -38,7 +38,7 @@ refused "a refusal with another's number" $header \
     'MICRO_PRICE_OFF_TICK 4' 'MICRO_PRICE_OFF_TICK 5'
 refused "a header that needs another before it" $header \
     '#include <stdint.h>' ''
-refused "a parameter more in the code" crates/exports/src/lib.rt \
+refused "a parameter more in the code" crates/abi_counting/src/lib.rt \
     'pub extern "C" fn micro_price_validate(config: &[u64])' 'pub extern "C" fn micro_price_validate(config: &[u64], n: u64)'
 refused "totals without a sign in Rust" bindings/rust/src/sys.rs \
     'move_half_ticks: *const i64,

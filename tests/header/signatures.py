@@ -2,7 +2,7 @@
 """signatures.py TREE ARCHIVE
 
 Holds the functions that TREE/include/micro_price.h declares against the symbols that ARCHIVE exports, and their parameters
-against crates/exports*, where they are written, and against bindings/rust/src/sys.rs, where Rust declares them. Holds the
+against crates/abi_*, where they are written, and against bindings/rust/src/sys.rs, where Rust declares them. Holds the
 header's numbers against the crates that have them. Prints each mismatch and ends with status 1 if there is one.
 """
 import re
@@ -17,12 +17,12 @@ RUN = {"CONFIG_WORDS", "RECORD_WORDS", "QUOTE_WORDS", "ROW_WORDS", "SIGNAL_WORDS
 
 # Constants of crates: the header's name, the file and the constant.
 CONSTANTS = [
-    ("BAD_ENCODING", "crates/encoding/src/lib.rt", "BAD_ENCODING"),
-    ("OTHER_CONFIGURATION", "crates/replay/src/inner.rt", "OTHER_CONFIGURATION"),
+    ("BAD_ENCODING", "crates/abi_encoding/src/lib.rt", "BAD_ENCODING"),
+    ("OTHER_CONFIGURATION", "crates/history_replay/src/inner.rt", "OTHER_CONFIGURATION"),
     ("MIN_STATE_OBSERVATIONS", "crates/config/src/lib.rt", "MIN_STATE_OBSERVATIONS"),
     ("MAX_QUOTE_GAP_MS", "crates/config/src/lib.rt", "MAX_QUOTE_GAP_MS"),
     ("MAX_STATES", "crates/config/src/inner.rt", "MAX_STATES"),
-    ("IMAGE_HEADER", "crates/layout/src/lib.rt", "LENGTH"),
+    ("IMAGE_HEADER", "crates/image_layout/src/lib.rt", "LENGTH"),
 ]
 
 C_TYPES = {"u8": "uint8_t", "u64": "uint64_t", "i64": "int64_t", "f64": "double", "usize": "size_t"}
@@ -105,7 +105,7 @@ def numbers(tree):
     found = cases((tree / "crates/refusals/src/lib.rt").read_text(), "Refusal")
     found |= {name: constant((tree / file).read_text(), inner) for name, file, inner in CONSTANTS}
     statuses = cases((tree / "crates/model/src/inner.rt").read_text(), "StateStatus")
-    sources = cases((tree / "crates/signals/src/inner.rt").read_text(), "SignalSource")
+    sources = cases((tree / "crates/model_signals/src/inner.rt").read_text(), "SignalSource")
     sources |= {name: number for name, number in statuses.items() if name != "CALIBRATED"}
     found |= {"STATUS_" + name: number for name, number in statuses.items()}
     found |= {"SOURCE_" + name: number for name, number in sources.items()}
@@ -137,9 +137,9 @@ def main():
     tree, archive = Path(sys.argv[1]), sys.argv[2]
     text = (tree / "include/micro_price.h").read_text()
     header = in_header(text)
-    code = "\n".join(file.read_text() for file in sorted((tree / "crates").glob("exports*/src/*.rt")))
+    code = "\n".join(file.read_text() for file in sorted((tree / "crates").glob("abi_*/src/*.rt")))
     rust = (tree / "bindings/rust/src/sys.rs").read_text()
-    found = list(differences(header, declared(code, r'pub\s+extern\s+"C"\s+', c_parameters), "crates/exports*"))
+    found = list(differences(header, declared(code, r'pub\s+extern\s+"C"\s+', c_parameters), "crates/abi_*"))
     found += differences(header, declared(rust, r"pub\s+", rust_parameters), "bindings/rust/src/sys.rs")
     symbols = exported(archive)
     found += [f"{name} is declared and the archive does not export it" for name in sorted(header.keys() - symbols)]
@@ -152,7 +152,7 @@ def main():
         print(f"header: {line}", file=sys.stderr)
     if found or not header:
         sys.exit(1)
-    print(f"header: {len(header)} functions are those of crates/exports*, of bindings/rust and of the archive")
+    print(f"header: {len(header)} functions are those of crates/abi_*, of bindings/rust and of the archive")
 
 
 if __name__ == "__main__":

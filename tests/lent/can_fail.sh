@@ -46,8 +46,8 @@ prints_else lent "fit_counts answers 0 to all" crates/fit/src/lib.rt "$fit" "$fi
 prints_else lent "calibrate_micro_price does not store the record" crates/evening/src/lib.rt "$store" ""
 prints_else lent "calibrate_micro_price answers 15 to all" crates/evening/src/lib.rt "$store$answer" "$store
     Evening::Refused(Refusal::WindowBackward)"
-prints_else lent "replay does not store the record" crates/replay/src/lib.rt "$store" ""
-prints_else lent "replay answers that it is done to all" crates/replay/src/lib.rt "$store$answer" "$store
+prints_else lent "replay does not store the record" crates/history_replay/src/lib.rt "$store" ""
+prints_else lent "replay answers that it is done to all" crates/history_replay/src/lib.rt "$store$answer" "$store
     Replayed::Done"
 prints_else lent "the core of observe counts a pair twice" crates/calibrator/src/inner.rt "counters.pairs + 1" "counters.pairs + 2"
 prints_else by_value "the program by value keeps the record after a restore" tests/lent/by_value.rt.txt \

@@ -1,5 +1,5 @@
-// Prints the bits that crates/linear_cases/stdout holds. The constants and the functions between the two marks are those of
-// src/analytics/micro_price.rs at commit ae8cf040d3, letter for letter; what follows makes the systems of crates/linear_cases/src/main.rt.
+// Prints the bits that crates/cases_linear/stdout holds. The constants and the functions between the two marks are those of
+// src/analytics/micro_price.rs at commit ae8cf040d3, letter for letter; what follows makes the systems of crates/cases_linear/src/main.rt.
 
 // ---- from micro_price.rs
 

@@ -3,6 +3,7 @@ use Prim.Native.Nat.{ℕ, zero, suc, _+_, _*_, _/_, _%_, max}
 use mathlib.Core.Bool.{Bool, true, false, _&&_, _||_}
 use mathlib.Core.List.{List, [], _∷_}
 use lib.IntN.{ℤ, pos, _+ℤ_}
+use lib.ListN.{getD}
 
 abbrev pub bit : Bool → ℕ
 bit true = 1
@@ -33,9 +34,16 @@ module _ {A : Type 0} where
   tab zero f = []
   tab (suc n) f = f zero ∷ tab n (λ k. f (suc k))
 
-  -- N rows of N cells, flat: cell (i, j) at i × N + j
+  -- N rows of N cells, flat: cell (i, j) at cellIndex N i j
   abbrev pub square : ℕ → (ℕ → ℕ → A) → List A
   square N f = tab (N * N) (λ k. f (k / N) (k % N))
+
+-- the place of cell (i, j) in flat rows of N, and the cell of a flat table
+abbrev pub cellIndex : ℕ → ℕ → ℕ → ℕ
+cellIndex N i j = i * N + j
+
+abbrev pub cellAt : ℕ → List ℕ → ℕ → ℕ → ℕ
+cellAt N t i j = getD t (cellIndex N i j) 0
 
 -- the test at i, i + 1, .., k of them
 abbrev pub allFrom : (ℕ → Bool) → ℕ → ℕ → Bool

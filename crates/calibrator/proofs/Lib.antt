@@ -1,4 +1,4 @@
-pub mod Room
+pub mod Lengths
 pub mod Ways
 pub mod Step
 pub mod Memories

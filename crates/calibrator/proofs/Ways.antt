@@ -14,9 +14,9 @@ use Rattle.refusals.specs.declared.Check.the-variants.{Fine, Refused}
 use Rattle.refusals.specs.declared.Refusal.{Refusal}
 use Rattle.refusals.proofs.Refusals.{if-fine, first-fine}
 use Rattle.config.specs.Configuration.{states}
-use Rattle.config.specs.Known.{Valid}
+use Rattle.config.specs.Inner.{Valid}
 use Rattle.config.specs.declared.MicroPriceConfig.{MicroPriceConfig}
-use Rattle.quotes.specs.Known.{Accepted}
+use Rattle.quotes.specs.Inner.{Accepted}
 use Rattle.quotes.specs.Quotes.{checkQuote}
 use Rattle.quotes.specs.Neighbours.{neighboursOf}
 use Rattle.quotes.specs.declared.Neighbours.{Neighbours}
@@ -29,20 +29,21 @@ use Rattle.quotes.proofs.Known.{fine-known}
 use Rattle.quotes.proofs.Pairs.{counted-made}
 use Rattle.quotes.proofs.States.{place-located}
 use Rattle.quotes.proofs.Ticks.{half-ticks-most}
-use Rattle.tally.specs.Entries.{Tables, tables, enterBoth, forthOf, backOf, touchedOver}
+use Rattle.tally.specs.Entries.{Tables, tables, enterBoth, touchedOver}
+use Rattle.tally.specs.Inner.{forthOf, backOf, Placed}
 use Rattle.tally.specs.Events.{skip}
-use Rattle.tally.specs.Fits.{Placed}
 use Rattle.tally.specs.Limits.{counterLimit, overCounter}
 use Rattle.tally.specs.Rules.{Memory}
 use Rattle.tally.specs.declared.PairEntry.{PairEntry}
-use Rattle.calibrator.specs.Record.{kindOf, countsOf, memory, ended, skipCount, addSkip, addPair, accepted, limited, pickDone, noCounters, entryOf, Countable}
-use Rattle.calibrator.specs.Observe.{eventFrom, wrongLengths, refuses, broken, earlier, judgePair, roomFor, countedAs, made, observed}
+use Rattle.calibrator.specs.Record.{kindOf, countsOf, memory}
+use Rattle.calibrator.specs.Inner.{outcome, skipCount, addSkip, addPair, accepted, limited, pickDone, noCounters, entryOf, Countable, judgePair, countedAs}
+use Rattle.calibrator.specs.Observe.{eventFrom, wrongLengths, refuses, broken, earlier, checkMemory, made, observed}
 use Rattle.calibrator.specs.declared.Counters.{Counters}
 use Rattle.calibrator.specs.declared.Done.{Done}
 use Rattle.calibrator.specs.declared.Previous.{Previous}
 use Rattle.calibrator.specs.declared.Previous.the-variants.{Nothing, Quoted}
 use Rattle.calibrator.specs.declared.Record.{Record}
-use Rattle.calibrator.proofs.Room.{room-known, lengths-known}
+use Rattle.calibrator.proofs.Lengths.{tables-known, lengths-known}
 
 not-refused : (k : Check) → refuses k ≡ false → k ≡ Fine
 not-refused Fine e = refl
@@ -105,14 +106,14 @@ may-add n b e f = omega (arith, ltb-false counterLimit (n + 1) (within-limit b (
 -- ---- the ways through new
 
 module _ (c : MicroPriceConfig) (r : Record) (s m : List ℕ) (t : List ℤ) where
-  pub new-refused : (x : Refusal) → roomFor c (memory r s m t) ≡ Refused x → ended (Refused x) r s m t ≡ made c (memory r s m t)
+  pub new-refused : (x : Refusal) → checkMemory c (memory r s m t) ≡ Refused x → outcome (Refused x) r s m t ≡ made c (memory r s m t)
   new-refused x e = rw e
 
-  pub new-made : roomFor c (memory r s m t) ≡ Fine → (s′ m′ : List ℕ) (t′ : List ℤ) → s′ ≡ replicate (length s) 0 → m′ ≡ replicate (length m) 0
+  pub new-made : checkMemory c (memory r s m t) ≡ Fine → (s′ m′ : List ℕ) (t′ : List ℤ) → s′ ≡ replicate (length s) 0 → m′ ≡ replicate (length m) 0
       → t′ ≡ replicate (length t) (pos 0) → (k : Counters) → k ≡ noCounters
-      → ended Fine (record { previous = Nothing; counters = k }) s′ m′ t′ ≡ made c (memory r s m t)
+      → outcome Fine (record { previous = Nothing; counters = k }) s′ m′ t′ ≡ made c (memory r s m t)
   new-made e s′ m′ t′ u v w k f =
-      let z = lengths-known (states c) (length s) (length m) (length t) (room-known c (length s) (length m) (length t) e .1) in
+      let z = lengths-known (states c) (length s) (length m) (length t) (tables-known c (length s) (length m) (length t) e .1) in
       rw (e, f, u, v, w, z .stay-cells, z .moved-cells, z .totals-cells)
 
 -- ---- the ways through one quote
@@ -125,25 +126,26 @@ module _ (c : MicroPriceConfig) (l : Previous) (k : Counters) (s m : List ℕ) (
   before = memory held s m t
 
   -- 1 or 7
-  pub way-no-room : (x : Refusal) → roomFor c before ≡ Refused x → ended (Refused x) held s m t ≡ observed c before q
-  way-no-room x e = rw e
+  pub way-lengths : (x : Refusal) → checkMemory c before ≡ Refused x → outcome (Refused x) held s m t ≡ observed c before q
+  way-lengths x e = rw e
 
   -- a first quote
-  pub way-first : roomFor c before ≡ Fine → l ≡ Nothing → (d : Done) → d ≡ pickDone (checkQuote c q) held (accepted k q)
-      → ended (d .answer) (d .next) s m t ≡ observed c before q
+  pub way-first : checkMemory c before ≡ Fine → l ≡ Nothing → (d : Done) → d ≡ pickDone (checkQuote c q) held (accepted k q)
+      → outcome (d .answer) (d .next) s m t ≡ observed c before q
   way-first e f d g = rw g (go (checkQuote c q) refl)
     where
-      go : (x : Check) → checkQuote c q ≡ x → ended (pickDone x held (accepted k q) .answer) (pickDone x held (accepted k q) .next) s m t ≡ observed c before q
+      go : (x : Check) → checkQuote c q ≡ x
+          → outcome (pickDone x held (accepted k q) .answer) (pickDone x held (accepted k q) .next) s m t ≡ observed c before q
       go Fine h = rw (e, f, h)
       go (Refused x) h = rw (e, f, h)
 
   -- 8, 2, 3, 4 or 5 after another quote
-  pub way-judged : roomFor c before ≡ Fine → (p : TopOfBook) → l ≡ Quoted p → (x : Refusal) → judgePair c p q ≡ Refused x
-      → ended (Refused x) held s m t ≡ observed c before q
+  pub way-judged : checkMemory c before ≡ Fine → (p : TopOfBook) → l ≡ Quoted p → (x : Refusal) → judgePair c p q ≡ Refused x
+      → outcome (Refused x) held s m t ≡ observed c before q
   way-judged e p f x h = rw (e, f, h)
 
   -- counted, or 6
-  pub way-next : roomFor c before ≡ Fine → (p : TopOfBook) → l ≡ Quoted p → judgePair c p q ≡ Fine
+  pub way-next : checkMemory c before ≡ Fine → (p : TopOfBook) → l ≡ Quoted p → judgePair c p q ≡ Fine
       → countedAs c before q (eventFrom (neighboursOf c p q)) ≡ observed c before q
   way-next e p f h = rw (e, f, h)
 
@@ -155,18 +157,18 @@ module _ (c : MicroPriceConfig) (l : Previous) (k : Counters) (s m : List ℕ) (
   -- a skip, its counter n within its limit or not
   module _ (x : Skip) (n : ℕ) (n-is : n ≡ skipCount k x) (b : Bool) (b-is : b ≡ not (overCounter (n + 1))) where
     pub way-skipped : b ≡ true → (k′ : Counters) → k′ ≡ addSkip k x → (d : Done) → d ≡ accepted k′ q
-        → ended (d .answer) (d .next) s m t ≡ countedAs c before q (skip (kindOf x))
+        → outcome (d .answer) (d .next) s m t ≡ countedAs c before q (skip (kindOf x))
     way-skipped y k′ v d g = rw (g, v) (go x (rw n-is at (within-limit b (overCounter (n + 1)) b-is y)))
       where
         go : (x : Skip) → overCounter (skipCount k x + 1) ≡ false
-            → ended Fine (record { previous = Quoted q; counters = addSkip k x }) s m t ≡ countedAs c before q (skip (kindOf x))
+            → outcome Fine (record { previous = Quoted q; counters = addSkip k x }) s m t ≡ countedAs c before q (skip (kindOf x))
         go Gap e = rw e
         go Spread e = rw e
 
-    pub way-skip-limit : b ≡ false → (d : Done) → d ≡ limited held → ended (d .answer) (d .next) s m t ≡ countedAs c before q (skip (kindOf x))
+    pub way-skip-limit : b ≡ false → (d : Done) → d ≡ limited held → outcome (d .answer) (d .next) s m t ≡ countedAs c before q (skip (kindOf x))
     way-skip-limit y d g = rw g (go x (rw n-is at (past-limit b (overCounter (n + 1)) b-is y)))
       where
-        go : (x : Skip) → overCounter (skipCount k x + 1) ≡ true → ended (Refused (refusal 6)) held s m t ≡ countedAs c before q (skip (kindOf x))
+        go : (x : Skip) → overCounter (skipCount k x + 1) ≡ true → outcome (Refused (refusal 6)) held s m t ≡ countedAs c before q (skip (kindOf x))
         go Gap e = rw e
         go Spread e = rw e
 
@@ -179,12 +181,12 @@ module _ (c : MicroPriceConfig) (l : Previous) (k : Counters) (s m : List ℕ) (
     after = enterBoth (states c) (forthOf e) (backOf e) (tables s m t)
 
     limit-is : (overCounter (k .pairs + 1) || touchedOver (states c) (forthOf e) (backOf e) after) ≡ true
-        → ended (Refused (refusal 6)) held s m t ≡ countedAs c before q (eventFrom (Counted p))
+        → outcome (Refused (refusal 6)) held s m t ≡ countedAs c before q (eventFrom (Counted p))
     limit-is x = rw (← w .from-at .mirrors, ← w .to-at .mirrors, x)
 
     -- the counter of pairs is full
     pub way-full : (a : Bool) → a ≡ not (overCounter (k .pairs + 1)) → not a ≡ true → (d : Done) → d ≡ limited held
-        → ended (d .answer) (d .next) s m t ≡ countedAs c before q (eventFrom (Counted p))
+        → outcome (d .answer) (d .next) s m t ≡ countedAs c before q (eventFrom (Counted p))
     way-full a x y d g = rw (g, limit-is (rw (past-limit a (overCounter (k .pairs + 1)) x (not-true a y))))
 
     -- the number of states and the entry as the code has them
@@ -194,7 +196,7 @@ module _ (c : MicroPriceConfig) (l : Previous) (k : Counters) (s m : List ℕ) (
 
       -- a cell or a total would pass its limit
       pub way-over : (b : Bool) → b ≡ not (touchedOver n (forthOf e′) (backOf e′) entered) → not b ≡ true → (d : Done) → d ≡ limited held
-          → ended (d .answer) (d .next) s m t ≡ countedAs c before q (eventFrom (Counted p))
+          → outcome (d .answer) (d .next) s m t ≡ countedAs c before q (eventFrom (Counted p))
       way-over b x y d g =
           let f : touchedOver (states c) (forthOf e) (backOf e) after ≡ true = past-limit b _ (rw (n-is, e-is) at x) (not-true b y) in
           rw (g, limit-is (rw f (or-true (overCounter (k .pairs + 1)))))
@@ -203,7 +205,7 @@ module _ (c : MicroPriceConfig) (l : Previous) (k : Counters) (s m : List ℕ) (
       pub way-entered : (a : Bool) → a ≡ not (overCounter (k .pairs + 1)) → not a ≡ false
           → (b : Bool) → b ≡ not (touchedOver n (forthOf e′) (backOf e′) entered) → not b ≡ false
           → (s′ m′ : List ℕ) (t′ : List ℤ) → tables s′ m′ t′ ≡ entered → (k′ : Counters) → k′ ≡ addPair k e′ → (d : Done) → d ≡ accepted k′ q
-          → ended (d .answer) (d .next) s′ m′ t′ ≡ countedAs c before q (eventFrom (Counted p))
+          → outcome (d .answer) (d .next) s′ m′ t′ ≡ countedAs c before q (eventFrom (Counted p))
       way-entered a a-is y b b-is z s′ m′ t′ u k′ v d g =
           let f : touchedOver (states c) (forthOf e) (backOf e) after ≡ false = within-limit b _ (rw (n-is, e-is) at b-is) (not-false b z) in
           let h : tables s′ m′ t′ ≡ after = rw (n-is, e-is) at u in

@@ -3,7 +3,7 @@ use Prim.Native.Nat.{ℕ, _*_}
 use mathlib.Core.Bool.{Bool, true, false, not, _||_}
 use lib.Dec.{ltb, eqb}
 use lib.ListN.{length}
-use Rattle.signed.specs.Totals.{change}
+use Rattle.tally.specs.Totals.{change}
 use Rattle.refusals.specs.Refusals.{refuseIf, firstOf}
 use Rattle.refusals.specs.declared.Check.{Check}
 use Rattle.refusals.specs.declared.Check.the-variants.{Fine, Refused}
@@ -15,7 +15,7 @@ use Rattle.quotes.specs.Neighbours.{neighboursOf}
 use Rattle.quotes.specs.declared.Neighbours.{Neighbours}
 use Rattle.quotes.specs.declared.Neighbours.the-variants.{Skipped, Counted}
 use Rattle.quotes.specs.declared.TopOfBook.{TopOfBook}
-use Rattle.tally.specs.Events.{Event, first, skip, pair, entered, zeros}
+use Rattle.tally.specs.Events.{Event, first, skip, pair, zeros}
 use Rattle.tally.specs.Limits.{touched}
 use Rattle.tally.specs.Rules.{Rule, Memory, step}
 use Rattle.calibrator.specs.Record.{kindOf, Outcome, answered}
@@ -57,12 +57,12 @@ abbrev pub wrongLengths : ℕ → ℕ → ℕ → ℕ → Bool
 wrongLengths n stay moved totals = not (eqb stay (n * n)) || not (eqb moved (n * n)) || not (eqb totals n)
 
 -- 1, 7
-abbrev pub checkRoom : MicroPriceConfig → ℕ → ℕ → ℕ → Check
-checkRoom c stay moved totals = firstOf (checkConfig c) (refuseIf (wrongLengths (states c) stay moved totals) 7)
+abbrev pub checkTableLengths : MicroPriceConfig → ℕ → ℕ → ℕ → Check
+checkTableLengths c stay moved totals = firstOf (checkConfig c) (refuseIf (wrongLengths (states c) stay moved totals) 7)
 
-abbrev pub roomFor : MicroPriceConfig → Memory Previous → Check
-roomFor c m =
-    checkRoom c (length (m .counts .tables .stay)) (length (m .counts .tables .moved)) (length (m .counts .tables .totals))
+abbrev pub checkMemory : MicroPriceConfig → Memory Previous → Check
+checkMemory c m =
+    checkTableLengths c (length (m .counts .tables .stay)) (length (m .counts .tables .moved)) (length (m .counts .tables .totals))
 
 abbrev pub refuses : Check → Bool
 refuses Fine = false
@@ -82,12 +82,9 @@ earlier (Quoted p) q = ltb (q .«timestamp_ms») (p .«timestamp_ms»)
 abbrev pub judgeAfter : MicroPriceConfig → Previous → TopOfBook → Check
 judgeAfter c l q = firstOf (refuseIf (broken c l) 8) (firstOf (checkQuote c q) (refuseIf (earlier l q) 5))
 
-abbrev pub judgePair : MicroPriceConfig → TopOfBook → TopOfBook → Check
-judgePair c p q = judgeAfter c (Quoted p) q
-
 -- 1, 7, 8, 2, 3, 4, 5
 abbrev pub judge : MicroPriceConfig → Memory Previous → TopOfBook → Check
-judge c m q = firstOf (roomFor c m) (judgeAfter c (m .last) q)
+judge c m q = firstOf (checkMemory c m) (judgeAfter c (m .last) q)
 
 -- ---- the operations
 
@@ -103,16 +100,10 @@ observedBy R judge m q = answered (refusalBy R judge m q) m (step R m q)
 abbrev pub observed : MicroPriceConfig → Memory Previous → TopOfBook → Outcome Previous
 observed c m q = observedBy (rule c) (judge c) m q
 
--- an event counted, where nothing before 6 refuses
-abbrev pub countedAs : MicroPriceConfig → Memory Previous → TopOfBook → Event → Outcome Previous
-countedAs c m q e =
-    let after = entered (states c) (mirrorOf (c .«imbalance_buckets»)) e (m .counts) in
-    answered (refuseIf (touched (states c) (mirrorOf (c .«imbalance_buckets»)) e after) 6) m (record { last = Quoted q; counts = after })
-
 -- no last quote, zeros
 abbrev pub fresh : MicroPriceConfig → Memory Previous
 fresh c = record { last = Nothing; counts = zeros 2 (states c) }
 
 -- new: 1, 7
 abbrev pub made : MicroPriceConfig → Memory Previous → Outcome Previous
-made c m = answered (roomFor c m) m (fresh c)
+made c m = answered (checkMemory c m) m (fresh c)

@@ -19,45 +19,56 @@ ghost use lib.IntN.{ℤ, pos};
 ghost use mathlib.Core.List.{List};
 ghost use Rattle.basics.specs.Loan.{given, final};
 ghost use Rattle.config.specs.Configuration.{states};
-ghost use Rattle.config.specs.Known.{Valid};
+ghost use Rattle.config.specs.Inner.{Valid};
 ghost use Rattle.quotes.specs.Neighbours.{neighboursOf};
-ghost use Rattle.quotes.specs.Known.{Accepted};
+ghost use Rattle.quotes.specs.Inner.{Accepted};
 ghost use Rattle.quotes.specs.Quotes.{checkQuote};
 ghost use Rattle.tally.specs.Events.{skip};
-ghost use Rattle.calibrator.specs.Record.{ended, memory, skipCount, addSkip, addPair, accepted, limited, pickDone, noCounters, entryOf, kindOf, Countable, came, leaves};
-ghost use Rattle.calibrator.specs.Observe.{eventFrom, wrongLengths, checkRoom, judgePair, made, observed, countedAs};
+ghost use Rattle.calibrator.specs.Record.{memory, kindOf, came, leaves};
+ghost use Rattle.calibrator.specs.Inner.{outcome, skipCount, addSkip, addPair, accepted, limited, pickDone, noCounters, entryOf, Countable, judgePair, countedAs};
+ghost use Rattle.calibrator.specs.Observe.{eventFrom, wrongLengths, checkTableLengths, made, observed};
 
-pub fn wrong_lengths(n: usize, stay: usize, moved: usize, totals: usize) -> bool
+pub fn wrong_lengths(n: usize, stay: usize, moved: usize, move_half_ticks: usize) -> bool
     requires { ⌜ n ≤ 256 ⌝ }
-    ensures { λ r. ⌜ r ≡ wrongLengths n stay moved totals ⌝ }
+    ensures { λ r. ⌜ r ≡ wrongLengths n stay moved «move_half_ticks» ⌝ }
 {
     let cells = n * n;
-    (stay != cells) | (moved != cells) | (totals != n)
+    (stay != cells) | (moved != cells) | (move_half_ticks != n)
 }
 
 // The first of refusals 1 and 7.
-pub fn check_room(c: MicroPriceConfig, stay: usize, moved: usize, totals: usize) -> Check
-    ensures { λ r. ⌜ r ≡ checkRoom c stay moved totals ⌝ }
+pub fn check_table_lengths(
+    config: MicroPriceConfig,
+    stay: usize,
+    moved: usize,
+    move_half_ticks: usize,
+) -> Check
+    ensures { λ r. ⌜ r ≡ checkTableLengths config stay moved «move_half_ticks» ⌝ }
 {
-    if !config::inner::is_valid(c) {
+    if !config::inner::is_valid(config) {
         return Check::Refused(Refusal::Configuration);
     }
-    if wrong_lengths(config::inner::state_count(c), stay, moved, totals) {
+    if wrong_lengths(
+        config::inner::state_count(config),
+        stay,
+        moved,
+        move_half_ticks,
+    ) {
         return Check::Refused(Refusal::SliceLength);
     }
     Check::Fine
 }
 
 // The first of refusals 8, 2, 3, 4 and 5 where there is a last quote.
-fn judge_pair(c: MicroPriceConfig, last: TopOfBook, quote: TopOfBook) -> Check
-    requires { ⌜ 1 ≤ c .«tick_size» ⌝ }
-    ensures { λ r. ⌜ r ≡ judgePair c last quote ⌝ }
+fn judge_pair(config: MicroPriceConfig, last: TopOfBook, quote: TopOfBook) -> Check
+    requires { ⌜ 1 ≤ config .«tick_size» ⌝ }
+    ensures { λ r. ⌜ r ≡ judgePair config last quote ⌝ }
 {
-    let sound = quotes::inner::check_quote(c, last);
+    let sound = quotes::inner::check_quote(config, last);
     let Check::Fine = sound else {
         return Check::Refused(Refusal::LastQuoteBroken);
     };
-    let checked = quotes::inner::check_quote(c, quote);
+    let checked = quotes::inner::check_quote(config, quote);
     let Check::Fine = checked else {
         return checked;
     };
@@ -119,9 +130,9 @@ fn with_pair(counters: Counters, e: PairEntry) -> Counters
 {
     let mut next = counters;
     next.pairs = counters.pairs + 1;
-    next.largest_move_half_ticks = tally::larger(
+    next.largest_move_half_ticks = basics::larger(
         counters.largest_move_half_ticks,
-        signed::distance(e.mid_from, e.mid_to),
+        tally::totals::distance(e.mid_from, e.mid_to),
     );
     next
 }
@@ -142,8 +153,8 @@ fn entry_of(pair: Pair) -> PairEntry
 }
 
 // Counts two neighbours that are skipped.
-fn skip_pair(rec: Record, c: MicroPriceConfig, quote: TopOfBook, kind: Skip) -> Done
-    ensures { λ d. ⌜ ((s m : List ℕ) (t : List ℤ) → ended (d .answer) (d .next) s m t ≡ countedAs c (memory rec s m t) quote (skip (kindOf kind))) ⌝ }
+fn skip_pair(rec: Record, config: MicroPriceConfig, quote: TopOfBook, kind: Skip) -> Done
+    ensures { λ d. ⌜ ((s m : List ℕ) (t : List ℤ) → outcome (d .answer) (d .next) s m t ≡ countedAs config (memory rec s m t) quote (skip (kindOf kind))) ⌝ }
 {
     let counters = rec.counters;
     if tally::may_count(skip_count(counters, kind)) {
@@ -157,24 +168,24 @@ fn count_pair(
     rec: Record,
     stay: &mut [u64],
     moved: &mut [u64],
-    totals: &mut [i64],
-    c: MicroPriceConfig,
+    move_half_ticks: &mut [i64],
+    config: MicroPriceConfig,
     quote: TopOfBook,
     pair: Pair,
 ) -> Done
-    requires { ⌜ Valid c × Countable c pair × (wrongLengths (states c) (length (now stay)) (length (now moved)) (length (now totals)) ≡ false) ⌝ }
-    ensures { λ d. ⌜ leaves (d .answer) (d .next) stay moved totals ≡ countedAs c (came rec stay moved totals) quote (eventFrom (Neighbours.Counted pair)) ⌝ }
+    requires { ⌜ Valid config × Countable config pair × (wrongLengths (states config) (length (now stay)) (length (now moved)) (length (now «move_half_ticks»)) ≡ false) ⌝ }
+    ensures { λ d. ⌜ leaves (d .answer) (d .next) stay moved «move_half_ticks» ≡ countedAs config (came rec stay moved «move_half_ticks») quote (eventFrom (Neighbours.Counted pair)) ⌝ }
 {
-    let n = config::inner::state_count(c);
+    let n = config::inner::state_count(config);
     let e = entry_of(pair);
     let counters = rec.counters;
     if !tally::may_count(counters.pairs) {
         return limit(rec);
     }
-    if !tally::pair_fits(n, stay, moved, totals, e) {
+    if !tally::pair_within(n, stay, moved, move_half_ticks, e) {
         return limit(rec);
     }
-    tally::enter_pair(n, stay, moved, totals, e);
+    tally::enter_pair(n, stay, moved, move_half_ticks, e);
     accept(with_pair(counters, e), quote)
 }
 
@@ -183,28 +194,36 @@ fn next_quote(
     rec: Record,
     stay: &mut [u64],
     moved: &mut [u64],
-    totals: &mut [i64],
-    c: MicroPriceConfig,
+    move_half_ticks: &mut [i64],
+    config: MicroPriceConfig,
     last: TopOfBook,
     quote: TopOfBook,
 ) -> Done
-    requires { ⌜ Valid c × Accepted c last × Accepted c quote × (last .«timestamp_ms» ≤ quote .«timestamp_ms»)
-        × (wrongLengths (states c) (length (now stay)) (length (now moved)) (length (now totals)) ≡ false) ⌝ }
-    ensures { λ d. ⌜ leaves (d .answer) (d .next) stay moved totals ≡ countedAs c (came rec stay moved totals) quote (eventFrom (neighboursOf c last quote)) ⌝ }
+    requires { ⌜ Valid config × Accepted config last × Accepted config quote × (last .«timestamp_ms» ≤ quote .«timestamp_ms»)
+        × (wrongLengths (states config) (length (now stay)) (length (now moved)) (length (now «move_half_ticks»)) ≡ false) ⌝ }
+    ensures { λ d. ⌜ leaves (d .answer) (d .next) stay moved «move_half_ticks» ≡ countedAs config (came rec stay moved «move_half_ticks») quote (eventFrom (neighboursOf config last quote)) ⌝ }
 {
-    let found = quotes::inner::neighbours(c, last, quote);
+    let found = quotes::inner::neighbours(config, last, quote);
     match found {
-        Neighbours::Skipped(kind) => skip_pair(rec, c, quote, kind),
-        Neighbours::Counted(pair) => count_pair(rec, stay, moved, totals, c, quote, pair),
+        Neighbours::Skipped(kind) => skip_pair(rec, config, quote, kind),
+        Neighbours::Counted(pair) => count_pair(
+            rec,
+            stay,
+            moved,
+            move_half_ticks,
+            config,
+            quote,
+            pair,
+        ),
     }
 }
 
 // A first quote.
-fn first_quote(rec: Record, c: MicroPriceConfig, quote: TopOfBook) -> Done
-    requires { ⌜ 1 ≤ c .«tick_size» ⌝ }
-    ensures { λ d. ⌜ d ≡ pickDone (checkQuote c quote) rec (accepted (rec .counters) quote) ⌝ }
+fn first_quote(rec: Record, config: MicroPriceConfig, quote: TopOfBook) -> Done
+    requires { ⌜ 1 ≤ config .«tick_size» ⌝ }
+    ensures { λ d. ⌜ d ≡ pickDone (checkQuote config quote) rec (accepted (rec .counters) quote) ⌝ }
 {
-    let checked = quotes::inner::check_quote(c, quote);
+    let checked = quotes::inner::check_quote(config, quote);
     let Check::Fine = checked else {
         return Done {
             answer: checked,
@@ -226,10 +245,10 @@ pub fn observe(
 ) -> Done
     ensures { λ d. ⌜ leaves (d .answer) (d .next) stay moved «move_half_ticks» ≡ observed config (came rec stay moved «move_half_ticks») quote ⌝ }
 {
-    let room = check_room(config, stay.len(), moved.len(), move_half_ticks.len());
-    let Check::Fine = room else {
+    let lengths = check_table_lengths(config, stay.len(), moved.len(), move_half_ticks.len());
+    let Check::Fine = lengths else {
         return Done {
-            answer: room,
+            answer: lengths,
             next: rec,
         };
     };
@@ -288,10 +307,10 @@ pub fn new(
 ) -> Done
     ensures { λ d. ⌜ leaves (d .answer) (d .next) stay moved «move_half_ticks» ≡ made config (came rec stay moved «move_half_ticks») ⌝ }
 {
-    let room = check_room(config, stay.len(), moved.len(), move_half_ticks.len());
-    let Check::Fine = room else {
+    let lengths = check_table_lengths(config, stay.len(), moved.len(), move_half_ticks.len());
+    let Check::Fine = lengths else {
         return Done {
-            answer: room,
+            answer: lengths,
             next: rec,
         };
     };

@@ -8,7 +8,7 @@ use native.Mathlib.Nat.{le-mul-of-pos-right, mul-comm}
 use lib.Dec.{leb, eqb}
 use borrow.Author.Tests.{leb-true, eqb-true}
 use Rattle.config.specs.Configuration.{most, shape, valid}
-use Rattle.config.specs.Known.{Valid}
+use Rattle.config.specs.Inner.{Valid}
 use Rattle.config.specs.declared.MicroPriceConfig.{MicroPriceConfig}
 use Rattle.basics.proofs.Tests.{both, fails}
 

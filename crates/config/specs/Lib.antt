@@ -1,2 +1,2 @@
 pub mod Configuration
-pub mod Known
+pub mod Inner

@@ -2,7 +2,7 @@
 use super::MicroPriceConfig;
 ghost use mathlib.Core.Path.{_≡_};
 ghost use Rattle.config.specs.Configuration.{shape, valid, states};
-ghost use Rattle.config.specs.Known.{Valid};
+ghost use Rattle.config.specs.Inner.{Valid};
 
 // Most states.
 const MAX_STATES: u64 = 256;
@@ -23,20 +23,20 @@ fn is_shape(n: u64, s: u64) -> bool
     (3 <= n) & (n % 2 == 1) & (1 <= s) & (n * s <= MAX_STATES)
 }
 
-pub fn is_valid(c: MicroPriceConfig) -> bool
-    ensures { λ r. ⌜ r ≡ valid c ⌝ }
+pub fn is_valid(config: MicroPriceConfig) -> bool
+    ensures { λ r. ⌜ r ≡ valid config ⌝ }
 {
-    (1 <= c.tick_size)
-        & (c.tick_size <= DOMAIN)
-        & is_shape(c.imbalance_buckets, c.spread_states)
-        & (1 <= c.min_state_observations)
-        & (1 <= c.max_quote_gap_ms)
+    (1 <= config.tick_size)
+        & (config.tick_size <= DOMAIN)
+        & is_shape(config.imbalance_buckets, config.spread_states)
+        & (1 <= config.min_state_observations)
+        & (1 <= config.max_quote_gap_ms)
 }
 
 // Document 01's N.
-pub fn state_count(c: MicroPriceConfig) -> usize
-    requires { ⌜ Valid c ⌝ }
-    ensures { λ r. ⌜ r ≡ states c ⌝ }
+pub fn state_count(config: MicroPriceConfig) -> usize
+    requires { ⌜ Valid config ⌝ }
+    ensures { λ r. ⌜ r ≡ states config ⌝ }
 {
-    (c.imbalance_buckets * c.spread_states) as usize
+    (config.imbalance_buckets * config.spread_states) as usize
 }

@@ -10,17 +10,18 @@ use Rattle.refusals.specs.declared.Refusal.{Refusal}
 use Rattle.config.specs.declared.MicroPriceConfig.{MicroPriceConfig}
 use Rattle.tally.specs.Rules.{Memory}
 use Rattle.calibrator.specs.Record.{Outcome, answered}
-use Rattle.calibrator.specs.Observe.{roomFor, fresh, made}
+use Rattle.calibrator.specs.Observe.{checkMemory, fresh, made}
 use Rattle.calibrator.specs.declared.Previous.{Previous}
 use Rattle.recording.specs.Recording.{quotesOf, uneven}
-use Rattle.recording.specs.Observe.{RecordedOutcome, recordedAs, recorded, recordedOf}
+use Rattle.recording.specs.Observe.{RecordedOutcome, recordedAs, recorded}
+use Rattle.recording.specs.Inner.{recordedOf}
 use Rattle.fit.specs.Fit.{endFit, fitCounts}
 use Rattle.evening.specs.Evening.{endEvening, countedBy, counted}
 use Rattle.evening.specs.declared.Evening.the-variants.{Fitted, Refused}
 
 module _ (c : MicroPriceConfig) where
   -- new leaves a new calibrator where there is room
-  pub new-fresh : (o : Outcome Previous) (m : Memory Previous) → o ≡ made c m → roomFor c m ≡ Check.Fine → o .left ≡ fresh c
+  pub new-fresh : (o : Outcome Previous) (m : Memory Previous) → o ≡ made c m → checkMemory c m ≡ Check.Fine → o .left ≡ fresh c
   new-fresh o m e fine = ap (λ (x : Outcome Previous). x .left) e ∙ ap (λ (k : Check). answered k m (fresh c) .left) fine
 
   -- a recording given to it
@@ -42,7 +43,7 @@ module _ (c : MicroPriceConfig) where
         → recordedAs a k m ≡ d
         → a ≡ Check.Refused r
         → o ≡ made c m
-        → roomFor c m ≡ Check.Fine
+        → checkMemory c m ≡ Check.Fine
         → endEvening (Refused r) (o .left) model scratch ≡ counted c d model scratch
     counted-refused a k m r o e is new room =
         ap (λ (m : Memory Previous). endEvening (Refused r) m model scratch) (new-fresh o m new room)

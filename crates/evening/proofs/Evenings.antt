@@ -14,32 +14,33 @@ use Rattle.config.specs.Configuration.{states}
 use Rattle.config.specs.declared.MicroPriceConfig.{MicroPriceConfig}
 use Rattle.quotes.specs.declared.TopOfBook.{TopOfBook}
 use Rattle.tally.specs.Rules.{Memory}
-use Rattle.calibrator.specs.Observe.{checkRoom, fresh}
+use Rattle.calibrator.specs.Observe.{checkTableLengths, fresh}
 use Rattle.calibrator.specs.declared.Previous.{Previous}
 use Rattle.recording.specs.Recording.{quotesOf, uneven, filter}
 use Rattle.recording.specs.Window.{inside, checkWindow}
 use Rattle.recording.specs.Observe.{recorded}
 use Rattle.recording.proofs.Parts.{handed, handed-even, handed-quotes}
-use Rattle.fit.specs.Fit.{wrongRoom}
+use Rattle.fit.specs.Fit.{wrongFitLengths}
 use Rattle.evening.specs.declared.Evening.the-variants as Evening
 use Rattle.evening.specs.Evening.{EveningOutcome, endEvening, checkLengths, eveningRefusal, counted, eveningUnless, calibrated}
 
 module _ (c : MicroPriceConfig) (w : List ℕ) (start end : ℕ) where
   module _ (stay moved totals scratch model : ℕ) (fine : checkLengths c w start end stay moved totals scratch model ≡ Check.Fine) where
-    rest : (checkWindow w start end ≡ Check.Fine) × (firstOf (checkRoom c stay moved totals) (refuseIf (wrongRoom (states c) scratch model) 7) ≡ Check.Fine)
-    rest = first-fine (checkWindow w start end) (firstOf (checkRoom c stay moved totals) (refuseIf (wrongRoom (states c) scratch model) 7)) fine
+    rest : (checkWindow w start end ≡ Check.Fine)
+        × (firstOf (checkTableLengths c stay moved totals) (refuseIf (wrongFitLengths (states c) scratch model) 7) ≡ Check.Fine)
+    rest = first-fine (checkWindow w start end) (firstOf (checkTableLengths c stay moved totals) (refuseIf (wrongFitLengths (states c) scratch model) 7)) fine
 
     pub window-is : checkWindow w start end ≡ Check.Fine
     window-is = rest .0
 
-    pub room-is : checkRoom c stay moved totals ≡ Check.Fine
-    room-is = first-fine (checkRoom c stay moved totals) (refuseIf (wrongRoom (states c) scratch model) 7) (rest .1) .0
+    pub room-is : checkTableLengths c stay moved totals ≡ Check.Fine
+    room-is = first-fine (checkTableLengths c stay moved totals) (refuseIf (wrongFitLengths (states c) scratch model) 7) (rest .1) .0
 
   -- where the window and the tables are fine, the last test decides
-  pub last-judged : (stay moved totals scratch model : ℕ) → checkWindow w start end ≡ Check.Fine → checkRoom c stay moved totals ≡ Check.Fine
-      → {n : ℕ} → n ≡ states c → {b : Bool} → b ≡ wrongRoom n scratch model → refuseIf b 7 ≡ checkLengths c w start end stay moved totals scratch model
+  pub last-judged : (stay moved totals scratch model : ℕ) → checkWindow w start end ≡ Check.Fine → checkTableLengths c stay moved totals ≡ Check.Fine
+      → {n : ℕ} → n ≡ states c → {b : Bool} → b ≡ wrongFitLengths n scratch model → refuseIf b 7 ≡ checkLengths c w start end stay moved totals scratch model
   last-judged stay moved totals scratch model window room counted judged =
-      rw (window, room) (ap (λ b. refuseIf b 7) (judged ∙ ap (λ n. wrongRoom n scratch model) counted))
+      rw (window, room) (ap (λ b. refuseIf b 7) (judged ∙ ap (λ n. wrongFitLengths n scratch model) counted))
 
   -- the part handed out has whole quotes
   pub part-even : (part : List ℕ) → part ≡ handed w start end → uneven part ≡ false

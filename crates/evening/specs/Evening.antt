@@ -9,12 +9,12 @@ use Rattle.refusals.specs.declared.Check.the-variants as Check
 use Rattle.config.specs.Configuration.{states}
 use Rattle.config.specs.declared.MicroPriceConfig.{MicroPriceConfig}
 use Rattle.tally.specs.Rules.{Memory}
-use Rattle.calibrator.specs.Observe.{checkRoom, fresh}
+use Rattle.calibrator.specs.Observe.{checkTableLengths, fresh}
 use Rattle.calibrator.specs.declared.Previous.{Previous}
 use Rattle.recording.specs.Recording.{quotesOf, filter}
 use Rattle.recording.specs.Window.{inside, checkWindow}
 use Rattle.recording.specs.Observe.{RecordedOutcome, recorded}
-use Rattle.fit.specs.Fit.{wrongRoom, FitOutcome, fitCounts}
+use Rattle.fit.specs.Fit.{wrongFitLengths, FitOutcome, fitCounts}
 use Rattle.evening.specs.declared.Evening.{Evening}
 use Rattle.evening.specs.declared.Evening.the-variants.{Fitted, Refused}
 
@@ -32,20 +32,20 @@ endEvening answer left model scratch = record { answer = answer; left = left; mo
 abbrev pub checkLengths : MicroPriceConfig → List ℕ → ℕ → ℕ → ℕ → ℕ → ℕ → ℕ → ℕ → Check
 checkLengths c w start end stay moved totals scratch model =
     firstOf (checkWindow w start end)
-    (firstOf (checkRoom c stay moved totals) (refuseIf (wrongRoom (states c) scratch model) 7))
+    (firstOf (checkTableLengths c stay moved totals) (refuseIf (wrongFitLengths (states c) scratch model) 7))
 
 abbrev pub eveningRefusal : MicroPriceConfig → Memory Previous → List ℕ → ℕ → ℕ → ℕ → ℕ → Check
 eveningRefusal c m w start end scratch model =
     checkLengths c w start end (length (m .counts .tables .stay)) (length (m .counts .tables .moved)) (length (m .counts .tables .totals)) scratch model
 
 -- a fit's answer with the number of invalid quotes; the counts stay
-abbrev pub fittedWith : ℕ → Memory Previous → FitOutcome → EveningOutcome
-fittedWith invalid left f =
+abbrev pub eveningFitted : ℕ → Memory Previous → FitOutcome → EveningOutcome
+eveningFitted invalid left f =
     endEvening (Fitted (record { answer = f .answer; invalid = invalid })) left (f .model) (f .scratch)
 
 -- a quote that stops the count leaves tables and counters zero and no last quote; else the counts are fitted
 abbrev pub countedBy : MicroPriceConfig → Check → ℕ → Memory Previous → List ℕ → List Float → EveningOutcome
-countedBy c Check.Fine invalid left model scratch = fittedWith invalid left (fitCounts c left model scratch)
+countedBy c Check.Fine invalid left model scratch = eveningFitted invalid left (fitCounts c left model scratch)
 countedBy c (Check.Refused r) invalid left model scratch = endEvening (Refused r) (fresh c) model scratch
 
 abbrev pub counted : MicroPriceConfig → RecordedOutcome Previous → List ℕ → List Float → EveningOutcome

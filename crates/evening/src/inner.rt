@@ -14,7 +14,7 @@ ghost use lib.ListN.{length};
 ghost use Rattle.basics.specs.Loan.{given, final};
 ghost use Rattle.refusals.specs.declared.Check.the-variants.{Fine};
 ghost use Rattle.calibrator.specs.Record.{came, remains};
-ghost use Rattle.calibrator.specs.Observe.{checkRoom, fresh};
+ghost use Rattle.calibrator.specs.Observe.{checkTableLengths, fresh};
 ghost use Rattle.recording.specs.Recording.{quotesOf, uneven};
 ghost use Rattle.recording.specs.Window.{checkWindow};
 ghost use Rattle.recording.specs.Observe.{recorded, recordedAs};
@@ -35,24 +35,24 @@ fn check_evening(
     w: &[u64],
     start: u64,
     end: u64,
-    c: MicroPriceConfig,
+    config: MicroPriceConfig,
     stay: usize,
     moved: usize,
-    totals: usize,
+    move_half_ticks: usize,
     scratch: usize,
     model: usize,
 ) -> Check
-    ensures { λ r. ⌜ r ≡ checkLengths c (given w) start end stay moved totals scratch model ⌝ }
+    ensures { λ r. ⌜ r ≡ checkLengths config (given w) start end stay moved «move_half_ticks» scratch model ⌝ }
 {
     let window = check_window(w, start, end);
     let Check::Fine = window else {
         return window;
     };
-    let room = calibrator::inner::check_room(c, stay, moved, totals);
-    let Check::Fine = room else {
-        return room;
+    let lengths = calibrator::inner::check_table_lengths(config, stay, moved, move_half_ticks);
+    let Check::Fine = lengths else {
+        return lengths;
     };
-    if fit::inner::wrong_room(config::inner::state_count(c), scratch, model) {
+    if fit::inner::wrong_fit_lengths(config::inner::state_count(config), scratch, model) {
         return Check::Refused(Refusal::SliceLength);
     }
     Check::Fine
@@ -67,7 +67,7 @@ fn count_part(
     config: MicroPriceConfig,
     part: &[u64],
 ) -> Recorded
-    requires { ⌜ (checkRoom config (length (now stay)) (length (now moved)) (length (now «move_half_ticks»)) ≡ Fine) × (uneven (now part) ≡ false) ⌝ }
+    requires { ⌜ (checkTableLengths config (length (now stay)) (length (now moved)) (length (now «move_half_ticks»)) ≡ Fine) × (uneven (now part) ≡ false) ⌝ }
     ensures { λ d. ⌜ recordedAs (d .answer) (d .invalid) (remains (d .next) stay moved «move_half_ticks») ≡ recorded config (quotesOf (given part)) 0 (fresh config) ⌝ }
 {
     let new = calibrator::inner::new(rec, stay, moved, move_half_ticks, config);
@@ -86,7 +86,7 @@ fn count_and_fit(
     scratch: &mut [f64],
     model: &mut [u64],
 ) -> EveningDone
-    requires { ⌜ (checkRoom config (length (now stay)) (length (now moved)) (length (now «move_half_ticks»)) ≡ Fine) × (uneven (now part) ≡ false) ⌝ }
+    requires { ⌜ (checkTableLengths config (length (now stay)) (length (now moved)) (length (now «move_half_ticks»)) ≡ Fine) × (uneven (now part) ≡ false) ⌝ }
     ensures { λ r. ⌜ endEvening (r .answer) (remains (r .next) stay moved «move_half_ticks») (final model) (final scratch)
         ≡ counted config (recorded config (quotesOf (given part)) 0 (fresh config)) (given model) (given scratch) ⌝ }
 {

@@ -14,17 +14,17 @@ use Rattle.refusals.specs.declared.Refusal.{Refusal}
 use Rattle.refusals.specs.declared.Refusal.the-variants.{NoCalibratedState}
 use Rattle.model.specs.Rows.{rowWords}
 use Rattle.model.specs.declared.StateEstimate.{StateEstimate}
-use Rattle.marking.specs.Below.{someTo}
-use Rattle.marking.specs.Marks.{Cells, observations, Marked, markOf}
-use Rattle.marking.proofs.Below.{some-none, some-step}
-use Rattle.marking.proofs.Decided.{marked-is}
-use Rattle.system.specs.Rows.{used}
-use Rattle.system.specs.Tables.{Marks}
-use Rattle.system.specs.Solution.{Solution, solution, unsolved, solutionOf, checkOf, StandsIn, SolvedIn}
-use Rattle.system.proofs.Filling.{used-number}
-use Rattle.estimates.specs.Estimates.{Given, estimateOf, estimate, representable}
-use Rattle.fit.specs.Fit.{Fit, fitted, refused, judgedRows, fitFrom, fitOf, tableOf, answerOf, modelAfter}
-use Rattle.fit.specs.Steps.{rowsIn, FitEnds}
+use Rattle.fit_marking.specs.Below.{someTo}
+use Rattle.fit_marking.specs.Marks.{Cells, observations, Marked, markOf}
+use Rattle.fit_marking.proofs.Below.{some-none, some-step}
+use Rattle.fit_marking.proofs.Decided.{marked-is}
+use Rattle.fit_system.specs.Rows.{used}
+use Rattle.fit_system.specs.Inner.{Marks, checkOf, StandsIn, SolvedIn}
+use Rattle.fit_system.specs.Solution.{Solution, solution, unsolved, solutionOf}
+use Rattle.fit_system.proofs.Filling.{used-number}
+use Rattle.fit_estimates.specs.Estimates.{Given, estimateOf, estimate, representable}
+use Rattle.fit.specs.Fit.{Fit, fitted, refused, judgedRows, fitFrom, fitOf, tableOf, fitAnswer, modelAfter}
+use Rattle.fit.specs.Inner.{rowsIn, FitEnds}
 
 -- ---- rows that agree below n
 
@@ -39,35 +39,35 @@ table-same : (n : ℕ) (a b : ℕ → StateEstimate) → ((k : ℕ) → k < n �
 table-same zero a b h = refl
 table-same (suc n) a b h = λ j. table-same n a b (λ k g. h k (omega arith)) j ++ rowWords (h n (omega arith) j)
 
-judged-same : (n : ℕ) (a b : ℕ → StateEstimate) → ((k : ℕ) → k < n → a k ≡ b k) → answerOf (judgedRows n a) ≡ answerOf (judgedRows n b)
+judged-same : (n : ℕ) (a b : ℕ → StateEstimate) → ((k : ℕ) → k < n → a k ≡ b k) → fitAnswer (judgedRows n a) ≡ fitAnswer (judgedRows n b)
 unfolding judgedRows
 judged-same n a b h =
     go _ _ _ _
     (some-same n (λ k. not (representable (a k))) (λ k. not (representable (b k))) (λ k g. ap (λ e. not (representable e)) (h k g)))
     (some-same n (λ k. eqb (a k .status) 0) (λ k. eqb (b k .status) 0) (λ k g. ap (λ e. eqb (e .status) 0) (h k g)))
   where
-    pick : (s t : Bool) → answerOf (cond s (refused 19) (cond t (fitted a) (refused 16))) ≡ answerOf (cond s (refused 19) (cond t (fitted b) (refused 16)))
+    pick : (s t : Bool) → fitAnswer (cond s (refused 19) (cond t (fitted a) (refused 16))) ≡ fitAnswer (cond s (refused 19) (cond t (fitted b) (refused 16)))
     pick true t = refl
     pick false true = refl
     pick false false = refl
 
     go : (s s′ t t′ : Bool) → s ≡ s′ → t ≡ t′
-        → answerOf (cond s (refused 19) (cond t (fitted a) (refused 16))) ≡ answerOf (cond s′ (refused 19) (cond t′ (fitted b) (refused 16)))
-    go s s′ t t′ e f = pick s t ∙ (λ j. answerOf (cond (e j) (refused 19) (cond (f j) (fitted b) (refused 16))))
+        → fitAnswer (cond s (refused 19) (cond t (fitted a) (refused 16))) ≡ fitAnswer (cond s′ (refused 19) (cond t′ (fitted b) (refused 16)))
+    go s s′ t t′ e f = pick s t ∙ (λ j. fitAnswer (cond (e j) (refused 19) (cond (f j) (fitted b) (refused 16))))
 
 -- rows that pass are the fit's
-judged-passed : (n : ℕ) (rows : ℕ → StateEstimate) → Fine ≡ answerOf (judgedRows n rows) → judgedRows n rows ≡ fitted rows
+judged-passed : (n : ℕ) (rows : ℕ → StateEstimate) → Fine ≡ fitAnswer (judgedRows n rows) → judgedRows n rows ≡ fitted rows
 unfolding judgedRows
 judged-passed n rows e = go (someTo n (λ i. not (representable (rows i)))) (someTo n (λ i. eqb (rows i .status) 0)) e
   where
-    go : (s t : Bool) → Fine ≡ answerOf (cond s (refused 19) (cond t (fitted rows) (refused 16)))
+    go : (s t : Bool) → Fine ≡ fitAnswer (cond s (refused 19) (cond t (fitted rows) (refused 16)))
         → cond s (refused 19) (cond t (fitted rows) (refused 16)) ≡ fitted rows
     go true t e = absurd (zero-not-one cc)
     go false true e = refl
     go false false e = absurd (zero-not-one cc)
 
 -- a refused fit leaves the table
-table-left : (n : ℕ) (f : Fit) (r : Refusal) (t : List ℕ) → Refused r ≡ answerOf f → t ≡ modelAfter n f t
+table-left : (n : ℕ) (f : Fit) (r : Refusal) (t : List ℕ) → Refused r ≡ fitAnswer f → t ≡ modelAfter n f t
 table-left n (fitted rows) r t e = absurd (zero-not-one cc)
 table-left n (refused k) r t e = refl
 
@@ -113,7 +113,7 @@ module _ (rounds moves : ℕ) (G : Given) (t : List ℕ) where
 
     pub ends-unsolved : {k : Check} {r : Refusal} → k ≡ checkOf (solutionOf rounds moves (G .cells) (G .total)) → k ≡ Refused r
         → FitEnds (G .cells .states) (fitOf rounds moves G) t k t
-    ends-unsolved {k} {r} is told = rw (told, goes) (go (solutionOf rounds moves (G .cells) (G .total)) (sym told ∙ is))
+    ends-unsolved {k} {r} is answer-is = rw (answer-is, goes) (go (solutionOf rounds moves (G .cells) (G .total)) (sym answer-is ∙ is))
       where
         go : (s : Solution) → Refused r ≡ checkOf s → FitEnds (G .cells .states) (fitFrom G s) t (Refused r) t
         go (solution a b d) e = absurd (zero-not-one cc)
@@ -149,19 +149,19 @@ module _ (rounds moves : ℕ) (G : Given) (t : List ℕ) where
                     });
               }
 
-      pub ends-refused : {k : Check} {r : Refusal} → k ≡ answerOf (judgedRows (G .cells .states) (rowsIn (G .cells .states) G l)) → k ≡ Refused r
+      pub ends-refused : {k : Check} {r : Refusal} → k ≡ fitAnswer (judgedRows (G .cells .states) (rowsIn (G .cells .states) G l)) → k ≡ Refused r
           → FitEnds (G .cells .states) (fitOf rounds moves G) t k t
-      ends-refused {k} {r} is told =
+      ends-refused {k} {r} is answer-is =
           let R = solved-rows in
-          let a : k ≡ answerOf (fitOf rounds moves G) = is ∙ judged-same (G .cells .states) _ (R .rows) (R .same) ∙ ap answerOf (sym (R .fit-is)) in
-          record { answers = a; models = table-left (G .cells .states) (fitOf rounds moves G) r t (sym told ∙ a) }
+          let a : k ≡ fitAnswer (fitOf rounds moves G) = is ∙ judged-same (G .cells .states) _ (R .rows) (R .same) ∙ ap fitAnswer (sym (R .fit-is)) in
+          record { answers = a; models = table-left (G .cells .states) (fitOf rounds moves G) r t (sym answer-is ∙ a) }
 
-      pub ends-fitted : {k : Check} {m : List ℕ} → k ≡ answerOf (judgedRows (G .cells .states) (rowsIn (G .cells .states) G l)) → k ≡ Fine
+      pub ends-fitted : {k : Check} {m : List ℕ} → k ≡ fitAnswer (judgedRows (G .cells .states) (rowsIn (G .cells .states) G l)) → k ≡ Fine
           → m ≡ tableOf (G .cells .states) (rowsIn (G .cells .states) G l) → FitEnds (G .cells .states) (fitOf rounds moves G) t Fine m
-      ends-fitted {k} {m} is told w =
+      ends-fitted {k} {m} is answer-is w =
           let R = solved-rows in
           let f : fitOf rounds moves G ≡ fitted (R .rows) =
-          R .fit-is ∙ judged-passed (G .cells .states) (R .rows) (sym told ∙ is ∙ judged-same (G .cells .states) _ (R .rows) (R .same)) in
+          R .fit-is ∙ judged-passed (G .cells .states) (R .rows) (sym answer-is ∙ is ∙ judged-same (G .cells .states) _ (R .rows) (R .same)) in
           rw f (record { answers = refl; models = w ∙ table-same (G .cells .states) _ (R .rows) (R .same) })
 
 -- ---- another mirror that agrees below N
@@ -183,7 +183,7 @@ module _ (G : Given) (mirror : ℕ → ℕ) (same : (i : ℕ) → i < G .cells .
       })
 
   from-same : (x : Solution) (t : List ℕ)
-      → (answerOf (fitFrom G x) ≡ answerOf (fitFrom (turned G mirror) x))
+      → (fitAnswer (fitFrom G x) ≡ fitAnswer (fitFrom (turned G mirror) x))
       × (modelAfter (G .cells .states) (fitFrom G x) t ≡ modelAfter (G .cells .states) (fitFrom (turned G mirror) x) t)
   unfolding turned
   from-same (unsolved k) t = (refl, refl)
@@ -201,7 +201,7 @@ module _ (G : Given) (mirror : ℕ → ℕ) (same : (i : ℕ) → i < G .cells .
         models = f .models ∙ pick-models u (fitFrom G x) (fitFrom (turned G mirror) x) (from-same x t .1);
       }
     where
-      pick-answers : (u : Bool) (a b : Fit) → answerOf a ≡ answerOf b → answerOf (cond u a (refused 16)) ≡ answerOf (cond u b (refused 16))
+      pick-answers : (u : Bool) (a b : Fit) → fitAnswer a ≡ fitAnswer b → fitAnswer (cond u a (refused 16)) ≡ fitAnswer (cond u b (refused 16))
       pick-answers true a b e = e
       pick-answers false a b e = refl
 

@@ -1,5 +1,5 @@
--- Fits computed by their definition, each with its whole outcome (`Fits`): the example that document 01 prints, 16, 17 and 19 of its "Run", and two tables
--- whose words are the Rust's (tests/comparison/fit_cases.txt). Before each fit the model table is all 9, and scratch all 1.
+-- Fits computed by their definition, each with its whole outcome (`ComputedFits`): the example that document 01 prints, 16, 17 and 19 of its "Run", and two
+-- tables whose words are the Rust's (tests/comparison/fit_cases.txt). Before each fit the model table is all 9, and scratch all 1.
 use Prim.Native.Nat.{ℕ, _*_, _+_, _^_}
 use mathlib.Core.Path.{_≡_, refl}
 use mathlib.Core.Bool.{cond, _&&_}
@@ -19,13 +19,13 @@ use Rattle.tally.specs.Entries.{tables}
 use Rattle.tally.specs.Rules.{Memory}
 use Rattle.calibrator.specs.declared.Previous.{Previous}
 use Rattle.calibrator.specs.declared.Previous.the-variants.{Nothing}
-use Rattle.marking.specs.Below.{sumTo, someTo}
-use Rattle.marking.specs.Marks.{observations, reachesIn, markOf}
-use Rattle.linear.specs.Elimination.{system, pivotRow, swapped, cleared, reduced, columnSolved, columnsSolved}
-use Rattle.series.specs.Series.{dot, largest, summed, shareAfter}
-use Rattle.system.specs.Rows.{part}
-use Rattle.system.specs.Solution.{solutionOf}
-use Rattle.estimates.specs.Estimates.{adjusted, estimateOf}
+use Rattle.fit_marking.specs.Below.{sumTo, someTo}
+use Rattle.fit_marking.specs.Marks.{observations, reachesIn, markOf}
+use Rattle.fit_linear.specs.Elimination.{system, pivotRow, swapped, cleared, reduced, columnSolved, columnsSolved}
+use Rattle.fit_series.specs.Series.{dot, largest, summed, shareAfter}
+use Rattle.fit_system.specs.Rows.{part}
+use Rattle.fit_system.specs.Solution.{solutionOf}
+use Rattle.fit_estimates.specs.Estimates.{adjusted, estimateOf}
 use Rattle.fit.specs.Fit.{FitOutcome, judgedRows, fitOf, endFit, fittedWith, fitCounts}
 
 -- ---- tables by their cells, and outcomes
@@ -149,7 +149,7 @@ two-moves-model =
 
 -- ---- the fits
 
-pub record Fits : Type 0 where
+pub record ComputedFits : Type 0 where
   pub printed : outcomeOf (marked 1) printed-counts ≡ succeeds 6 printed-model
   pub no-calibrated : outcomeOf (marked 1) counts16 ≡ failsWith 6 16
   pub singular : outcomeOf (marked 1) counts17 ≡ failsWith 6 17
@@ -159,7 +159,7 @@ pub record Fits : Type 0 where
   -- with one round it is 18
   pub one-round : fittedWith 1 10 (marked 1) two-moves (nines 6) (ones 6) ≡ failsWith 6 18
 
-pub fits-computed : Fits
+pub fits-computed : ComputedFits
 unfolding judgedRows fitOf solutionOf adjusted estimateOf part dot largest summed shareAfter system pivotRow swapped cleared reduced columnSolved columnsSolved observations reachesIn markOf sumTo someTo abs asGreat max isInfinite clamp plusZero half add sub mul div neg lt le eq isNan round ofBits ofInt toBits
 fits-computed =
     record {

@@ -12,24 +12,24 @@ use lib.Ieee.{Float}
 use lib.ListN.{length, getD, length-append}
 use lib.Seq.{sets}
 use Rattle.basics.proofs.Stores.{sets-append, sets-whole}
-use Rattle.marking.specs.Below.{someTo}
-use Rattle.marking.specs.Marks.{cellsOf, observations, markOf}
-use Rattle.marking.proofs.Rows.{any-least}
-use Rattle.marking.proofs.Below.{some-none, some-at, some-step, some-more}
+use Rattle.fit_marking.specs.Below.{someTo}
+use Rattle.fit_marking.specs.Marks.{cellsOf, observations, markOf}
+use Rattle.fit_marking.proofs.Rows.{any-least}
+use Rattle.fit_marking.proofs.Below.{some-none, some-at, some-step, some-more}
 use Rattle.model.specs.Rows.{rowWords}
 use Rattle.model.specs.Status.{statusNumber}
 use Rattle.model.specs.declared.StateEstimate.{StateEstimate}
 use Rattle.model.specs.declared.StateStatus.{StateStatus}
-use Rattle.linear.specs.Flat.{from}
-use Rattle.series.specs.Scratch.{sumAt, shareAt, solvedG1}
-use Rattle.system.specs.Tables.{Marks}
+use Rattle.fit_linear.specs.Inner.{from}
+use Rattle.fit_series.specs.Inner.{sumAt, shareAt, solvedG1}
+use Rattle.fit_system.specs.Inner.{Marks}
 use Rattle.quotes.specs.States.{bucketIn, spreadIn}
 use Rattle.refusals.specs.declared.Check.the-variants.{Fine, Refused}
 use Rattle.refusals.specs.declared.Refusal.the-variants.{NoCalibratedState, Unrepresentable}
-use Rattle.estimates.specs.Estimates.{estimateOf, solvedAt, representable}
-use Rattle.estimates.specs.declared.Solved.{Solved}
-use Rattle.fit.specs.Fit.{judgedRows, tableOf, answerOf}
-use Rattle.fit.specs.Steps.{givenIn, rowsIn}
+use Rattle.fit_estimates.specs.Estimates.{estimateOf, solvedAt, representable}
+use Rattle.fit_estimates.specs.declared.Solved.{Solved}
+use Rattle.fit.specs.Fit.{judgedRows, tableOf, fitAnswer}
+use Rattle.fit.specs.Inner.{givenIn, rowsIn}
 
 -- ---- the rows that scratch holds
 
@@ -55,14 +55,14 @@ row-made n buckets tick stay moved marks mirrors scratch i h is-s is-o is-e leas
 -- the rows below i can be represented, and found says whether one is Calibrated
 pub record Seen (rows : ℕ → StateEstimate) (i : ℕ) (found : Bool) : Type 0 where
   pub held : someTo i (λ k. not (representable (rows k))) ≡ false
-  pub told : found ≡ someTo i (λ k. eqb (rows k .status) 0)
+  pub found-is : found ≡ someTo i (λ k. eqb (rows k .status) 0)
 
 pub seen-none : {rows : ℕ → StateEstimate} → Seen rows 0 false
-seen-none = record { held = some-none _; told = sym (some-none _) }
+seen-none = record { held = some-none _; found-is = sym (some-none _) }
 
 module _ {rows : ℕ → StateEstimate} {i : ℕ} {found : Bool} (s : Seen rows i found) where
   module _ {e : StateEstimate} {r : Bool} (is : e ≡ rows i) (said : r ≡ representable e) where
-    pub judged-no : (n : ℕ) → i < n → not r ≡ true → Refused Unrepresentable ≡ answerOf (judgedRows n rows)
+    pub judged-no : (n : ℕ) → i < n → not r ≡ true → Refused Unrepresentable ≡ fitAnswer (judgedRows n rows)
     unfolding judgedRows
     judged-no n h fails = rw (some-at n (λ k. not (representable (rows k))) i h (ap (λ e. not (representable e)) (sym is) ∙ ap not (sym said) ∙ fails))
 
@@ -70,20 +70,20 @@ module _ {rows : ℕ → StateEstimate} {i : ℕ} {found : Bool} (s : Seen rows 
     seen-more holds =
         record {
           held = some-more i (λ k. not (representable (rows k))) (s .held) (ap (λ e. not (representable e)) (sym is) ∙ ap not (sym said) ∙ holds);
-          told =
-              (λ j. s .told j || eqb (is j .status) 0)
+          found-is =
+              (λ j. s .found-is j || eqb (is j .status) 0)
               ∙ sym (ap (λ j. someTo j (λ k. eqb (rows k .status) 0)) (add-one i) ∙ some-step i (λ k. eqb (rows k .status) 0));
         }
 
   -- all n rows are seen
   module _ {n : ℕ} (all : i ≡ n) where
-    pub judged-none : not found ≡ true → Refused NoCalibratedState ≡ answerOf (judgedRows n rows)
+    pub judged-none : not found ≡ true → Refused NoCalibratedState ≡ fitAnswer (judgedRows n rows)
     unfolding judgedRows
-    judged-none none = rw (← all, s .held, ← s .told, not-true found none)
+    judged-none none = rw (← all, s .held, ← s .found-is, not-true found none)
 
-    pub judged-fine : not found ≡ false → Fine ≡ answerOf (judgedRows n rows)
+    pub judged-fine : not found ≡ false → Fine ≡ fitAnswer (judgedRows n rows)
     unfolding judgedRows
-    judged-fine one = rw (← all, s .held, ← s .told, not-false found one)
+    judged-fine one = rw (← all, s .held, ← s .found-is, not-false found one)
 
 -- ---- written
 

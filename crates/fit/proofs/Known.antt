@@ -19,7 +19,7 @@ use Rattle.refusals.specs.declared.Check.the-variants.{Fine, Refused}
 use Rattle.refusals.specs.declared.Refusal.{Refusal}
 use Rattle.refusals.proofs.Refusals.{if-fine, first-fine, from-fine}
 use Rattle.config.specs.Configuration.{states}
-use Rattle.config.specs.Known.{Valid}
+use Rattle.config.specs.Inner.{Valid}
 use Rattle.config.specs.declared.MicroPriceConfig.{MicroPriceConfig}
 use Rattle.quotes.specs.States.{mirrorOf}
 use Rattle.quotes.proofs.States.{mirror-below, mirror-involution}
@@ -27,16 +27,17 @@ use Rattle.tally.specs.Entries.{overTotal}
 use Rattle.tally.specs.Events.{Counts}
 use Rattle.tally.specs.Limits.{overCounter}
 use Rattle.tally.specs.Rules.{Memory}
-use Rattle.calibrator.specs.Observe.{roomFor}
+use Rattle.calibrator.specs.Observe.{checkMemory}
 use Rattle.calibrator.specs.declared.Previous.{Previous}
-use Rattle.calibrator.proofs.Room.{room-known, lengths-known}
-use Rattle.mirrored.specs.Mirrors.{storedOver, totalMirrored, cellsAlike, cellMirrored, rowMirrored, checkState, isTwice, checkMirrored}
-use Rattle.mirrored.proofs.Walks.{all-at}
-use Rattle.marking.specs.Mirror.{Mirrored}
-use Rattle.series.specs.Scratch.{Scratch}
-use Rattle.system.specs.Tables.{totalOf, Exact}
-use Rattle.fit.specs.Fit.{fitOf, givenOf, wrongRoom, fitRefusal, endFit, fitUnless, fittedWith}
-use Rattle.fit.specs.Steps.{givenIn, Usable, FitEnds}
+use Rattle.calibrator.proofs.Lengths.{tables-known, lengths-known}
+use Rattle.count_check.specs.Mirrors.{storedOver, totalMirrored, cellsAlike, cellMirrored, rowMirrored, checkState, isTwice, checkMirrored}
+use Rattle.count_check.proofs.Walks.{all-at}
+use Rattle.fit_marking.specs.Mirror.{CellsMirror}
+use Rattle.fit_series.specs.Inner.{Scratch}
+use Rattle.fit_system.specs.Inner.{Exact}
+use Rattle.fit_system.specs.Rows.{totalOf}
+use Rattle.fit.specs.Fit.{fitOf, givenOf, wrongFitLengths, fitRefusal, endFit, fitUnless, fittedWith}
+use Rattle.fit.specs.Inner.{givenIn, Usable, FitEnds}
 use Rattle.fit.proofs.Ends.{ends-same}
 
 -- a total within its limit is exact as a float
@@ -59,9 +60,9 @@ fit-known c m scratch model e =
     let s = length (m .counts .tables .stay) in
     let d = length (m .counts .tables .moved) in
     let t = length (m .counts .tables .totals) in
-    let a = first-fine (roomFor c m) (firstOf (refuseIf (wrongRoom (states c) scratch model) 7) (checkMirrored c (m .counts))) e in
-    let b = first-fine (refuseIf (wrongRoom (states c) scratch model) 7) (checkMirrored c (m .counts)) (a .1) in
-    let r = room-known c s d t (a .0) in
+    let a = first-fine (checkMemory c m) (firstOf (refuseIf (wrongFitLengths (states c) scratch model) 7) (checkMirrored c (m .counts))) e in
+    let b = first-fine (refuseIf (wrongFitLengths (states c) scratch model) 7) (checkMirrored c (m .counts)) (a .1) in
+    let r = tables-known c s d t (a .0) in
     let z = lengths-known (states c) s d t (r .1) in
     let w = neither (not (eqb scratch (states c * (2 * states c + 10)))) (not (eqb model (7 * states c))) (if-fine _ 7 (b .0)) in
     record {
@@ -91,7 +92,7 @@ limited-of c k e =
 
 -- 10: the cells equal their mirrors'
 pub mirrored-of : {c : MicroPriceConfig} {m : Memory Previous} {scratch model : ℕ} → Fittable c m scratch model
-    → Mirrored (givenOf c (m .counts) .cells) (mirrorOf (c .«imbalance_buckets»))
+    → CellsMirror (givenOf c (m .counts) .cells) (mirrorOf (c .«imbalance_buckets»))
 mirrored-of {c} {m} f =
     let n = c .«imbalance_buckets» in
     let some : 1 ≤ n = omega (arith, f .conf .n-least) in
@@ -154,16 +155,16 @@ usable-of {c} {m} f ms h e =
     }
 
 pub scratch-of : {c : MicroPriceConfig} {m : Memory Previous} {model : ℕ} → (l : List Float) → Fittable c m (length l) model → Scratch (states c) l
-scratch-of l f = record { few = f .conf .states-most; room = omega (arith, f .scratch-long) }
+scratch-of l f = record { few = f .conf .states-most; enough = omega (arith, f .scratch-long) }
 
 -- ---- the whole
 
 -- what is refused before the fit changes nothing
 pub whole-refused : (rounds moves : ℕ) (c : MicroPriceConfig) (m : Memory Previous) (model : List ℕ) (scratch : List Float) {k : Check} {r : Refusal}
     → k ≡ fitRefusal c m (length scratch) (length model) → k ≡ Refused r → endFit k model scratch ≡ fittedWith rounds moves c m model scratch
-whole-refused rounds moves c m model scratch is told =
-    (λ j. endFit (told j) model scratch)
-    ∙ sym (ap (λ k. fitUnless k (states c) (fitOf rounds moves (givenOf c (m .counts))) model scratch) (sym is ∙ told))
+whole-refused rounds moves c m model scratch is answer-is =
+    (λ j. endFit (answer-is j) model scratch)
+    ∙ sym (ap (λ k. fitUnless k (states c) (fitOf rounds moves (givenOf c (m .counts))) model scratch) (sym is ∙ answer-is))
 
 pub whole : (rounds moves : ℕ) (c : MicroPriceConfig) (m : Memory Previous) (model after : List ℕ) (scratch left : List Float) (r : Check) (n : ℕ) (ms : List ℕ)
     → n ≡ states c

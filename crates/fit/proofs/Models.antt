@@ -33,23 +33,23 @@ use Rattle.quotes.specs.States.{mirrorOf, spreadIn}
 use Rattle.quotes.proofs.States.{mirror-below, mirror-keeps-spread}
 use Rattle.quotes.proofs.Widths.{width-most}
 use Rattle.tally.specs.Rules.{Memory}
-use Rattle.calibrator.specs.Observe.{roomFor}
+use Rattle.calibrator.specs.Observe.{checkMemory}
 use Rattle.calibrator.specs.declared.Previous.{Previous}
 use Rattle.model.specs.Rows.{rowWords, rowAt, plusZeros}
 use Rattle.model.specs.declared.StateEstimate.{StateEstimate}
 use Rattle.model.proofs.Rows.{Held, row-back, row-elsewhere}
-use Rattle.marking.specs.Below.{someTo}
-use Rattle.marking.specs.Marks.{Cells}
-use Rattle.marking.proofs.Below.{some-not}
-use Rattle.linear.specs.Arithmetic.{rounded}
-use Rattle.linear.specs.Elimination.{Answer, solved, singular, matrixOf, gaussJordan}
-use Rattle.linear.proofs.Fits.{NumbersFit, CellsFit}
-use Rattle.series.specs.Series.{Series, converged, notConverged, sumSeries, shareAfter, fallbackWithinMoves}
-use Rattle.system.specs.Rows.{used, systemOf}
-use Rattle.system.specs.Solution.{Solution, solution, unsolved, summedUp, solutionFrom, solutionOf}
-use Rattle.system.proofs.Fits.{system-solved-fits}
-use Rattle.estimates.specs.Estimates.{Given, estimate, representable}
-use Rattle.fit.specs.Fit.{Fit, fitted, refused, judgedRows, fitFrom, fitOf, givenOf, fitRefusal, tableOf, answerOf, fitUnless, fittedWith}
+use Rattle.fit_marking.specs.Below.{someTo}
+use Rattle.fit_marking.specs.Marks.{Cells}
+use Rattle.fit_marking.proofs.Below.{some-not}
+use Rattle.fit_linear.specs.Arithmetic.{rounded}
+use Rattle.fit_linear.specs.Elimination.{Elimination, solved, singular, matrixOf, gaussJordan}
+use Rattle.fit_linear.proofs.Binary64.{NumbersFit, CellsFit}
+use Rattle.fit_series.specs.Series.{Series, converged, notConverged, sumSeries, shareAfter, fallbackWithinMoves}
+use Rattle.fit_system.specs.Rows.{used, systemOf}
+use Rattle.fit_system.specs.Solution.{Solution, solution, unsolved, summedUp, solutionFrom, solutionOf}
+use Rattle.fit_system.proofs.Binary64.{system-solved-fits}
+use Rattle.fit_estimates.specs.Estimates.{Given, estimate, representable}
+use Rattle.fit.specs.Fit.{Fit, fitted, refused, judgedRows, fitFrom, fitOf, givenOf, fitRefusal, tableOf, fitAnswer, fitUnless, fittedWith}
 use Rattle.fit.specs.Models.{RowsOpposite, Inside, RowOf, Written}
 use Rattle.fit.proofs.Judging.{length-table, table-more, table-whole}
 use Rattle.fit.proofs.Known.{Fittable, fit-known, mirrored-of}
@@ -91,7 +91,7 @@ solution-kept : (rounds moves : ℕ) (C : Cells) (total : ℕ → ℤ) → Kept 
 unfolding solutionOf
 solution-kept rounds moves C total = go (gaussJordan rounded (C .states) (systemOf C total)) (system-solved-fits C total)
   where
-    go : (a : Answer Float) → CellsFit (matrixOf a) → Kept (solutionFrom (C .states) rounds moves a)
+    go : (a : Elimination Float) → CellsFit (matrixOf a) → Kept (solutionFrom (C .states) rounds moves a)
     go (singular A) h = (omega arith, omega arith)
     go (solved A) h =
         let B : ℕ → ℕ → Float = λ i j. A i (C .states + 2 + j) in
@@ -174,11 +174,11 @@ table-rows n rows h i b =
 
 -- ---- the operation
 
-fine-parts : (k : Check) (n : ℕ) (f : Fit) (t : List ℕ) (l : List Float) → fitUnless k n f t l .answer ≡ Fine → (k ≡ Fine) × (answerOf f ≡ Fine)
+fine-parts : (k : Check) (n : ℕ) (f : Fit) (t : List ℕ) (l : List Float) → fitUnless k n f t l .answer ≡ Fine → (k ≡ Fine) × (fitAnswer f ≡ Fine)
 fine-parts Fine n f t l e = (refl, e)
 fine-parts (Refused r) n f t l e = absurd (zero-not-one cc)
 
-found-of : (G : Given) (f : Fit) → Ended G f → answerOf f ≡ Fine → Found G f
+found-of : (G : Given) (f : Fit) → Ended G f → fitAnswer f ≡ Fine → Found G f
 found-of G (fitted rows) e a = e
 found-of G (refused k) e a = absurd (zero-not-one cc)
 
@@ -210,14 +210,14 @@ module _ (rounds moves : ℕ) (c : MicroPriceConfig) (m : Memory Previous) (t₀
   table = fittedWith rounds moves c m t₀ l .model
 
   module _ (fine : fittedWith rounds moves c m t₀ l .answer ≡ Fine) where
-    parts : (fitRefusal c m (length l) (length t₀) ≡ Fine) × (answerOf fit ≡ Fine)
+    parts : (fitRefusal c m (length l) (length t₀) ≡ Fine) × (fitAnswer fit ≡ Fine)
     parts = fine-parts (fitRefusal c m (length l) (length t₀)) (states c) fit t₀ l fine
 
     -- the configuration is valid
     pub fit-valid : valid c ≡ true
     fit-valid =
-        let room = first-fine (roomFor c m) _ (parts .0) .0 in
-        not-false (valid c) (if-fine (not (valid c)) 1 (first-fine (checkConfig c) _ room .0))
+        let enough = first-fine (checkMemory c m) _ (parts .0) .0 in
+        not-false (valid c) (if-fine (not (valid c)) 1 (first-fine (checkConfig c) _ enough .0))
 
     known : Fittable c m (length l) (length t₀)
     known = fit-known c m (length l) (length t₀) (parts .0)
@@ -294,7 +294,7 @@ module _ (rounds moves : ℕ) (c : MicroPriceConfig) (m : Memory Previous) (t₀
       → (16 ≤ numberOf r) × (numberOf r ≤ 19)
   fit-numbers r k e = go fit (fit-ended rounds moves G) (ap (λ (x : Check). fitUnless x (states c) fit t₀ l .answer) (sym k) ∙ e)
     where
-      go : (f : Fit) → Ended G f → answerOf f ≡ Refused r → (16 ≤ numberOf r) × (numberOf r ≤ 19)
+      go : (f : Fit) → Ended G f → fitAnswer f ≡ Refused r → (16 ≤ numberOf r) × (numberOf r ≤ 19)
       go (fitted rows) d a = absurd (zero-not-one cc)
       go (refused n) d a =
           let q : refusal n ≡ r = cc in

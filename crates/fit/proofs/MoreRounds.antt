@@ -13,12 +13,12 @@ use Rattle.config.specs.Configuration.{states}
 use Rattle.config.specs.declared.MicroPriceConfig.{MicroPriceConfig}
 use Rattle.tally.specs.Rules.{Memory}
 use Rattle.calibrator.specs.declared.Previous.{Previous}
-use Rattle.marking.specs.Below.{someTo}
-use Rattle.system.specs.Rows.{used}
-use Rattle.system.specs.Solution.{solutionOf}
-use Rattle.system.proofs.MoreRounds.{solution-more}
-use Rattle.estimates.specs.Estimates.{Given}
-use Rattle.fit.specs.Fit.{Fit, refused, fitFrom, fitOf, givenOf, fitRefusal, answerOf, fitUnless, fittedWith}
+use Rattle.fit_marking.specs.Below.{someTo}
+use Rattle.fit_system.specs.Rows.{used}
+use Rattle.fit_system.specs.Solution.{solutionOf}
+use Rattle.fit_system.proofs.MoreRounds.{solution-more}
+use Rattle.fit_estimates.specs.Estimates.{Given}
+use Rattle.fit.specs.Fit.{Fit, refused, fitFrom, fitOf, givenOf, fitRefusal, fitAnswer, fitUnless, fittedWith}
 
 module _ (r r′ moves : ℕ) (fewer : r ≤ r′) where
   fit-of-more : (G : Given) → fitOf r moves G ≢ refused 18 → fitOf r′ moves G ≡ fitOf r moves G
@@ -44,5 +44,5 @@ module _ (r r′ moves : ℕ) (fewer : r ≤ r′) where
 
       go : (k : Check) → fitUnless k (states c) (fitOf r moves G) model scratch .answer ≢ Refused (refusal 18)
           → fitUnless k (states c) (fitOf r′ moves G) model scratch ≡ fitUnless k (states c) (fitOf r moves G) model scratch
-      go Fine h = ap (λ (f : Fit). fitUnless Fine (states c) f model scratch) (fit-of-more G (λ e. h (ap answerOf e)))
+      go Fine h = ap (λ (f : Fit). fitUnless Fine (states c) f model scratch) (fit-of-more G (λ e. h (ap fitAnswer e)))
       go (Refused x) h = refl

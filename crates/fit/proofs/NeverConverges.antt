@@ -18,17 +18,17 @@ use Rattle.tally.specs.Entries.{tables}
 use Rattle.tally.specs.Events.{Counts}
 use Rattle.tally.specs.Rules.{Memory}
 use Rattle.calibrator.specs.declared.Previous.{Previous}
-use Rattle.marking.specs.Below.{sumTo, someTo}
-use Rattle.marking.specs.Marks.{observations, reachesIn, markOf}
-use Rattle.linear.specs.Arithmetic.{rounded}
-use Rattle.linear.specs.Elimination.{solved, matrixOf, system, pivotRow, swapped, cleared, reduced, columnSolved, columnsSolved, gaussJordan}
-use Rattle.linear.specs.Flat.{at}
-use Rattle.series.specs.Series.{dot, times, largest, fallbackWithinMoves}
-use Rattle.series.proofs.Vectors.{SameVector}
-use Rattle.series.proofs.NeverConverges.{never-converges}
-use Rattle.system.specs.Rows.{part, used, systemOf}
-use Rattle.system.specs.Solution.{unsolved, summedUp, solutionFrom, solutionOf}
-use Rattle.estimates.specs.Estimates.{Given}
+use Rattle.fit_marking.specs.Below.{sumTo, someTo}
+use Rattle.fit_marking.specs.Marks.{observations, reachesIn, markOf}
+use Rattle.fit_linear.specs.Arithmetic.{rounded}
+use Rattle.fit_linear.specs.Elimination.{solved, matrixOf, system, pivotRow, swapped, cleared, reduced, columnSolved, columnsSolved, gaussJordan}
+use Rattle.fit_linear.specs.Inner.{floatAt}
+use Rattle.fit_series.specs.Series.{dot, times, largest, fallbackWithinMoves}
+use Rattle.fit_series.proofs.Vectors.{SameVector}
+use Rattle.fit_series.proofs.NeverConverges.{never-converges}
+use Rattle.fit_system.specs.Rows.{part, used, systemOf}
+use Rattle.fit_system.specs.Solution.{unsolved, summedUp, solutionFrom, solutionOf}
+use Rattle.fit_estimates.specs.Estimates.{Given}
 use Rattle.fit.specs.Fit.{refused, fitFrom, fitOf, givenOf, fitRefusal, fitUnless, endFit, fittedWith, fitCounts}
 
 -- tick 1, n 3, s 2, least 1, gap 1000
@@ -72,7 +72,7 @@ unfolding dot largest part system pivotRow swapped cleared reduced columnSolved 
 computed-18 = record { some-used = refl; is-solved = refl; given-back = refl; not-infinite = refl; not-tiny = refl }
 
 term-back : SameVector 6 (times rounded 6 B G1) G1
-term-back k h = sym (getD-tab 6 (times rounded 6 B G1) k nan h) ∙ ap (λ l. at l k) (computed-18 .given-back) ∙ getD-tab 6 G1 k nan h
+term-back k h = sym (getD-tab 6 (times rounded 6 B G1) k nan h) ∙ ap (λ l. floatAt l k) (computed-18 .given-back) ∙ getD-tab 6 G1 k nan h
 
 -- ---- the fit
 
@@ -92,12 +92,12 @@ module _ (rounds moves : ℕ) where
 
 -- ---- the operation
 
-module _ (last : Previous) (model : List ℕ) (scratch : List Float) (room : length scratch ≡ 132) (rows : length model ≡ 42) where
+module _ (last : Previous) (model : List ℕ) (scratch : List Float) (enough : length scratch ≡ 132) (rows : length model ≡ 42) where
   abbrev m : Memory Previous
   m = record { last = last; counts = counts18 }
 
   fine-18 : fitRefusal config18 m (length scratch) (length model) ≡ Fine
-  fine-18 = rw (room, rows)
+  fine-18 = rw (enough, rows)
 
   -- with any number of rounds, of the series and of the share: scratch is all plus zero, the model table as it was
   pub refused-18 : (rounds moves : ℕ)

@@ -23,11 +23,11 @@ use Rattle.model.specs.declared.StateEstimate.{StateEstimate}
 use Rattle.model.specs.declared.StateStatus.{StateStatus}
 use Rattle.model.specs.declared.StateStatus.the-variants.{Calibrated, Rare, NoPriceMove, OutsideQuotes}
 use Rattle.model.proofs.Rows.{Held}
-use Rattle.marking.specs.Marks.{Cells, notRare, reachesIn, markOf}
-use Rattle.marking.specs.Mirror.{Mirrored}
-use Rattle.marking.proofs.Mirror.{observations-mirrored, mark-mirrored}
-use Rattle.system.specs.Rows.{isCalibrated}
-use Rattle.estimates.specs.Estimates.{Given, adjusted, judged, estimateOf, estimate, small, representable}
+use Rattle.fit_marking.specs.Marks.{Cells, notRare, reachesIn, markOf}
+use Rattle.fit_marking.specs.Mirror.{CellsMirror}
+use Rattle.fit_marking.proofs.Mirror.{observations-mirrored, mark-mirrored}
+use Rattle.fit_system.specs.Rows.{isCalibrated}
+use Rattle.fit_estimates.specs.Estimates.{Given, adjusted, judged, estimateOf, estimate, small, representable}
 use Rattle.fit.specs.Models.{Opposite, RowsOpposite}
 
 -- ---- floats
@@ -246,7 +246,7 @@ module _ (G : Given) (G1 sum share : ℕ → Float) where
       not-below half (abs x) (finite-no-nan half p) (finite-no-nan (abs x) (subst T (sym (abs-finite x)) (finite-of (row i) r .final)))
       (judged-within (markOf (G .cells) i) half x z)
 
-  module _ (M : Mirrored (G .cells) (G .mirror)) (p : T (finite (halfTick (G .tick)))) (i : ℕ) (h : i < G .cells .states)
+  module _ (M : CellsMirror (G .cells) (G .mirror)) (p : T (finite (halfTick (G .tick)))) (i : ℕ) (h : i < G .cells .states)
       (kept : G .spread (G .mirror i) ≡ G .spread i) where
     abbrev j : ℕ
     j = G .mirror i

@@ -17,13 +17,13 @@ use Rattle.tally.specs.Entries.{tables}
 use Rattle.tally.specs.Rules.{Memory}
 use Rattle.calibrator.specs.declared.Previous.{Previous}
 use Rattle.calibrator.specs.declared.Previous.the-variants.{Nothing}
-use Rattle.marking.specs.Below.{sumTo, someTo}
-use Rattle.marking.specs.Marks.{observations, reachesIn, markOf}
-use Rattle.linear.specs.Elimination.{system, pivotRow, swapped, cleared, reduced, columnSolved, columnsSolved}
-use Rattle.series.specs.Series.{dot, largest, summed, shareAfter}
-use Rattle.system.specs.Rows.{part}
-use Rattle.system.specs.Solution.{solutionOf}
-use Rattle.estimates.specs.Estimates.{adjusted, estimateOf}
+use Rattle.fit_marking.specs.Below.{sumTo, someTo}
+use Rattle.fit_marking.specs.Marks.{observations, reachesIn, markOf}
+use Rattle.fit_linear.specs.Elimination.{system, pivotRow, swapped, cleared, reduced, columnSolved, columnsSolved}
+use Rattle.fit_series.specs.Series.{dot, largest, summed, shareAfter}
+use Rattle.fit_system.specs.Rows.{part}
+use Rattle.fit_system.specs.Solution.{solutionOf}
+use Rattle.fit_estimates.specs.Estimates.{adjusted, estimateOf}
 use Rattle.fit.specs.Fit.{FitOutcome, judgedRows, fitOf, endFit, fittedWith, fitCounts}
 use Rattle.fit.proofs.MoreRounds.{fit-more}
 

@@ -14,17 +14,16 @@ use Rattle.config.specs.declared.MicroPriceConfig.{MicroPriceConfig}
 use Rattle.quotes.specs.States.{mirrorOf, bucketIn, spreadIn}
 use Rattle.tally.specs.Events.{Counts}
 use Rattle.tally.specs.Rules.{Memory}
-use Rattle.calibrator.specs.Observe.{roomFor}
+use Rattle.calibrator.specs.Observe.{checkMemory}
 use Rattle.calibrator.specs.declared.Previous.{Previous}
-use Rattle.mirrored.specs.Mirrors.{checkMirrored}
+use Rattle.count_check.specs.Mirrors.{checkMirrored}
 use Rattle.model.specs.Rows.{rowWords}
 use Rattle.model.specs.declared.StateEstimate.{StateEstimate}
-use Rattle.marking.specs.Below.{someTo}
-use Rattle.marking.specs.Marks.{cellsOf}
-use Rattle.system.specs.Rows.{used}
-use Rattle.system.specs.Tables.{totalOf}
-use Rattle.system.specs.Solution.{Solution, solution, unsolved, solutionOf}
-use Rattle.estimates.specs.Estimates.{Given, estimate, representable}
+use Rattle.fit_marking.specs.Below.{someTo}
+use Rattle.fit_marking.specs.Marks.{cellsOf}
+use Rattle.fit_system.specs.Rows.{used, totalOf}
+use Rattle.fit_system.specs.Solution.{Solution, solution, unsolved, solutionOf}
+use Rattle.fit_estimates.specs.Estimates.{Given, estimate, representable}
 
 -- each state's estimate, or the number of the refusal
 pub data Fit : Type 0 where
@@ -65,14 +64,14 @@ givenOf c k =
     }
 
 -- 7: scratch has N × (2 N + 10) floats, the model table 7 N words
-abbrev pub wrongRoom : ℕ → ℕ → ℕ → Bool
-wrongRoom N scratch model = not (eqb scratch (N * (2 * N + 10))) || not (eqb model (7 * N))
+abbrev pub wrongFitLengths : ℕ → ℕ → ℕ → Bool
+wrongFitLengths N scratch model = not (eqb scratch (N * (2 * N + 10))) || not (eqb model (7 * N))
 
 -- 1, 7, then 6, 9, 10, 11
 abbrev pub fitRefusal : MicroPriceConfig → Memory Previous → ℕ → ℕ → Check
 fitRefusal c m scratch model =
-    firstOf (roomFor c m)
-    (firstOf (refuseIf (wrongRoom (states c) scratch model) 7)
+    firstOf (checkMemory c m)
+    (firstOf (refuseIf (wrongFitLengths (states c) scratch model) 7)
     (checkMirrored c (m .counts)))
 
 -- the rows of N states, one after another
@@ -90,9 +89,9 @@ abbrev pub endFit : Check → List ℕ → List Float → FitOutcome
 endFit answer model scratch = record { answer = answer; model = model; scratch = scratch }
 
 -- the table is written only on success
-abbrev pub answerOf : Fit → Check
-answerOf (fitted rows) = Fine
-answerOf (refused k) = Refused (refusal k)
+abbrev pub fitAnswer : Fit → Check
+fitAnswer (fitted rows) = Fine
+fitAnswer (refused k) = Refused (refusal k)
 
 abbrev pub modelAfter : ℕ → Fit → List ℕ → List ℕ
 modelAfter N (fitted rows) model = tableOf N rows
@@ -100,7 +99,7 @@ modelAfter N (refused k) model = model
 
 -- what is refused before the fit changes nothing; else scratch is all plus zero
 abbrev pub fitUnless : Check → ℕ → Fit → List ℕ → List Float → FitOutcome
-fitUnless Fine N f model scratch = endFit (answerOf f) (modelAfter N f model) (replicate (length scratch) posZero)
+fitUnless Fine N f model scratch = endFit (fitAnswer f) (modelAfter N f model) (replicate (length scratch) posZero)
 fitUnless (Refused r) N f model scratch = endFit (Refused r) model scratch
 
 abbrev pub fittedWith : ℕ → ℕ → MicroPriceConfig → Memory Previous → List ℕ → List Float → FitOutcome

@@ -1,3 +1,3 @@
 pub mod Fit
 pub mod Models
-pub mod Steps
+pub mod Inner

@@ -1,7 +1,7 @@
 // Inner functions: for the crates above, not for users. Where one has a `requires`, each caller proves it.
 use calibrator::Record;
 use config::MicroPriceConfig;
-use estimates::Solved;
+use fit_estimates::Solved;
 use model::StateEstimate;
 use refusals::Check;
 use refusals::Refusal;
@@ -14,16 +14,16 @@ ghost use lib.ListN.{length, getD, replicate};
 ghost use mathlib.Core.List.{List};
 ghost use Rattle.basics.specs.Loan.{given, final};
 ghost use Rattle.floats.specs.Floats.{posZero};
-ghost use Rattle.marking.specs.Below.{someTo};
-ghost use Rattle.marking.specs.Marks.{cellsOf};
-ghost use Rattle.linear.specs.Flat.{from};
-ghost use Rattle.series.specs.Scratch.{sumAt, shareAt, solvedG1, Scratch};
-ghost use Rattle.system.specs.Rows.{used};
-ghost use Rattle.system.specs.Tables.{Exact, Marks};
+ghost use Rattle.fit_marking.specs.Below.{someTo};
+ghost use Rattle.fit_marking.specs.Marks.{cellsOf};
+ghost use Rattle.fit_linear.specs.Inner.{from};
+ghost use Rattle.fit_series.specs.Inner.{sumAt, shareAt, solvedG1, Scratch};
+ghost use Rattle.fit_system.specs.Rows.{used};
+ghost use Rattle.fit_system.specs.Inner.{Exact, Marks};
 ghost use Rattle.calibrator.specs.Record.{came};
-ghost use Rattle.estimates.specs.Estimates.{solvedAt};
-ghost use Rattle.fit.specs.Steps.{givenIn, Usable, rowsIn, FitEnds};
-ghost use Rattle.fit.specs.Fit.{judgedRows, fitOf, wrongRoom, fitRefusal, tableOf, answerOf, endFit, fittedWith, fitCounts};
+ghost use Rattle.fit_estimates.specs.Estimates.{solvedAt};
+ghost use Rattle.fit.specs.Inner.{givenIn, Usable, rowsIn, FitEnds};
+ghost use Rattle.fit.specs.Fit.{judgedRows, fitOf, wrongFitLengths, fitRefusal, tableOf, fitAnswer, endFit, fittedWith, fitCounts};
 
 // What scratch has for state i and its mirror m.
 fn solved_in(scratch: &[f64], n: usize, i: usize, m: usize) -> Solved
@@ -63,9 +63,9 @@ fn state_estimate(
         → r ≡ rowsIn n (givenIn n buckets tick least (given stay) (given moved) totals (given mirrors)) (given scratch) i) ⌝ }
 {
     let solved = solved_in(scratch, n, i, mirrors[i]);
-    let observed = marking::observations_of(stay, moved, n, i);
+    let observed = fit_marking::observations_of(stay, moved, n, i);
     let state = i as u64;
-    estimates::estimate_of(
+    fit_estimates::estimate_of(
         tick,
         state % buckets + 1,
         state / buckets + 1,
@@ -88,13 +88,13 @@ fn judge_estimates(
 ) -> Check
     requires { ⌜ Usable n buckets tick (now stay) (now moved) (now mirrors) × (n ≤ length (now marks)) × Scratch n (now scratch) ⌝ }
     ensures { λ r. ⌜ ((least : ℕ) (totals : List ℤ) → Marks (cellsOf n least (given stay) (given moved)) (given marks)
-        → r ≡ answerOf (judgedRows n (rowsIn n (givenIn n buckets tick least (given stay) (given moved) totals (given mirrors)) (given scratch)))) ⌝ }
+        → r ≡ fitAnswer (judgedRows n (rowsIn n (givenIn n buckets tick least (given stay) (given moved) totals (given mirrors)) (given scratch)))) ⌝ }
 {
     let mut found = false;
     let mut i: usize = 0;
     while i < n {
         let e = state_estimate(n, buckets, tick, stay, moved, marks, mirrors, scratch, i);
-        if !estimates::is_representable(e) {
+        if !fit_estimates::is_representable(e) {
             return Check::Refused(Refusal::Unrepresentable);
         }
         found = found | (e.status == 0);
@@ -152,7 +152,7 @@ fn fit_marked(
     tick: u64,
     stay: &[u64],
     moved: &[u64],
-    totals: &[i64],
+    move_half_ticks: &[i64],
     marks: &[u64],
     mirrors: &[usize],
     rounds: usize,
@@ -160,12 +160,21 @@ fn fit_marked(
     scratch: &mut [f64],
     model: &mut [u64],
 ) -> Check
-    requires { ⌜ Usable n buckets tick (now stay) (now moved) (now mirrors) × Exact n (now stay) (now moved) (now totals)
+    requires { ⌜ Usable n buckets tick (now stay) (now moved) (now mirrors) × Exact n (now stay) (now moved) (now «move_half_ticks»)
         × (n ≤ length (now marks)) × Scratch n (now scratch) × (length (now model) ≡ 7 * n) ⌝ }
     ensures { λ r. ⌜ ((least : ℕ) → let C = cellsOf n least (given stay) (given moved) in Marks C (given marks) → someTo n (used C) ≡ true
-        → FitEnds n (fitOf rounds moves (givenIn n buckets tick least (given stay) (given moved) (given totals) (given mirrors))) (given model) r (final model)) ⌝ }
+        → FitEnds n (fitOf rounds moves (givenIn n buckets tick least (given stay) (given moved) (given «move_half_ticks») (given mirrors))) (given model) r (final model)) ⌝ }
 {
-    let solved = system::solve_system(stay, moved, totals, n, marks, rounds, moves, scratch);
+    let solved = fit_system::solve_system(
+        stay,
+        moved,
+        move_half_ticks,
+        n,
+        marks,
+        rounds,
+        moves,
+        scratch,
+    );
     let Check::Fine = solved else {
         return solved;
     };
@@ -195,18 +204,18 @@ fn fit_states(
     least: u64,
     stay: &[u64],
     moved: &[u64],
-    totals: &[i64],
+    move_half_ticks: &[i64],
     mirrors: &[usize],
     rounds: usize,
     moves: usize,
     scratch: &mut [f64],
     model: &mut [u64],
 ) -> Check
-    requires { ⌜ Usable n buckets tick (now stay) (now moved) (now mirrors) × Exact n (now stay) (now moved) (now totals) × Scratch n (now scratch) × (length (now model) ≡ 7 * n) ⌝ }
-    ensures { λ r. ⌜ FitEnds n (fitOf rounds moves (givenIn n buckets tick least (given stay) (given moved) (given totals) (given mirrors))) (given model) r (final model) ⌝ }
+    requires { ⌜ Usable n buckets tick (now stay) (now moved) (now mirrors) × Exact n (now stay) (now moved) (now «move_half_ticks») × Scratch n (now scratch) × (length (now model) ≡ 7 * n) ⌝ }
+    ensures { λ r. ⌜ FitEnds n (fitOf rounds moves (givenIn n buckets tick least (given stay) (given moved) (given «move_half_ticks») (given mirrors))) (given model) r (final model) ⌝ }
 {
     let mut marks = [1u64; 256];
-    marking::mark_no_price_move(stay, moved, n, least, &mut marks);
+    fit_marking::mark_no_price_move(stay, moved, n, least, &mut marks);
     if !has_calibrated(&marks, n) {
         return Check::Refused(Refusal::NoCalibratedState);
     }
@@ -216,7 +225,7 @@ fn fit_states(
         tick,
         stay,
         moved,
-        totals,
+        move_half_ticks,
         &marks,
         mirrors,
         rounds,
@@ -237,9 +246,9 @@ fn clear(scratch: &mut [f64])
 }
 
 // Whether scratch or the model table has a wrong length.
-pub fn wrong_room(n: usize, scratch: usize, model: usize) -> bool
+pub fn wrong_fit_lengths(n: usize, scratch: usize, model: usize) -> bool
     requires { ⌜ n ≤ 256 ⌝ }
-    ensures { λ r. ⌜ r ≡ wrongRoom n scratch model ⌝ }
+    ensures { λ r. ⌜ r ≡ wrongFitLengths n scratch model ⌝ }
 {
     (scratch != n * (2 * n + 10)) | (model != 7 * n)
 }
@@ -249,22 +258,27 @@ fn check_fit(
     rec: Record,
     stay: &[u64],
     moved: &[u64],
-    totals: &[i64],
-    c: MicroPriceConfig,
+    move_half_ticks: &[i64],
+    config: MicroPriceConfig,
     scratch: usize,
     model: usize,
 ) -> Check
-    ensures { λ r. ⌜ r ≡ fitRefusal c (came rec stay moved totals) scratch model ⌝ }
+    ensures { λ r. ⌜ r ≡ fitRefusal config (came rec stay moved «move_half_ticks») scratch model ⌝ }
 {
-    let room = calibrator::inner::check_room(c, stay.len(), moved.len(), totals.len());
-    let Check::Fine = room else {
-        return room;
+    let lengths = calibrator::inner::check_table_lengths(
+        config,
+        stay.len(),
+        moved.len(),
+        move_half_ticks.len(),
+    );
+    let Check::Fine = lengths else {
+        return lengths;
     };
-    if wrong_room(config::inner::state_count(c), scratch, model) {
+    if wrong_fit_lengths(config::inner::state_count(config), scratch, model) {
         return Check::Refused(Refusal::SliceLength);
     }
     let counters = rec.counters;
-    mirrored::check_mirrored_counts(c, counters, stay, moved, totals)
+    count_check::check_mirrored_counts(config, counters, stay, moved, move_half_ticks)
 }
 
 // The fit of a record by value, with at most so many rounds of the series, and so many of the share.
@@ -294,7 +308,7 @@ pub fn fit_counts_with(
         return k;
     };
     let n = config::inner::state_count(config);
-    let mirrors = mirrored::mirrors_of(config);
+    let mirrors = count_check::mirrors_of(config);
     let answer = fit_states(
         n,
         config.imbalance_buckets,

@@ -6,3 +6,4 @@ pub mod Whole
 pub mod Within
 pub mod Helpers
 pub mod Zeros
+pub mod Finite

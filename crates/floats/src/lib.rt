@@ -2,6 +2,7 @@
 pub mod inner;
 
 ghost use mathlib.Core.Path.{_≡_};
+ghost use lib.Ieee.Scale.{finite};
 ghost use Rattle.floats.specs.Floats as Floats;
 
 // The size of a float.
@@ -41,6 +42,12 @@ pub fn is_infinite(x: f64) -> bool
     ensures { λ r. ⌜ r ≡ Floats.isInfinite x ⌝ }
 {
     (x == 1.0 / 0.0) | (x == -1.0 / 0.0)
+}
+
+pub fn is_finite(x: f64) -> bool
+    ensures { λ r. ⌜ r ≡ finite x ⌝ }
+{
+    (x == x) & !is_infinite(x)
 }
 
 // Clamps to 0..1; NaN stays.

@@ -11,27 +11,27 @@ use Rattle.refusals.specs.declared.Check.{Check}
 use Rattle.refusals.specs.declared.Check.the-variants.{Fine, Refused}
 use Rattle.refusals.proofs.Refusals.{if-fine, first-fine}
 use Rattle.config.specs.Configuration.{states, valid}
-use Rattle.config.specs.Known.{Valid}
+use Rattle.config.specs.Inner.{Valid}
 use Rattle.config.specs.declared.MicroPriceConfig.{MicroPriceConfig}
 use Rattle.config.proofs.Known.{valid-known}
 use Rattle.quotes.specs.Quotes.{checkQuote}
 use Rattle.quotes.specs.declared.TopOfBook.{TopOfBook}
-use Rattle.tally.specs.Limits.{over}
+use Rattle.tally.specs.Limits.{overLimit}
 use Rattle.tally.specs.Rules.{Memory, step}
 use Rattle.tally.proofs.Step.{step-memory}
 use Rattle.tally.proofs.Balance.{after-none}
-use Rattle.words.specs.Words.{AllWords}
+use Rattle.image_words.specs.Words.{AllWords}
 use Rattle.calibrator.specs.Record.{answered}
 use Rattle.calibrator.specs.Observe.{rule, fresh, judge, refusalBy, earlier}
 use Rattle.calibrator.specs.declared.Previous.{Previous}
 use Rattle.calibrator.specs.declared.Previous.the-variants.{Nothing, Quoted}
 use Rattle.calibrator.proofs.Step.{rule-lawful}
-use Rattle.layout.specs.Layout.{image, previousWords, sameWords}
-use Rattle.layout.proofs.Headers.{same-equal}
+use Rattle.image_layout.specs.Layout.{image, previousWords, sameWords}
+use Rattle.image_layout.proofs.Headers.{same-equal}
 use Rattle.image.specs.Image.{savedUnless, saveRefusal, endRestore, Taken, restored, lentWrong}
 use Rattle.image.specs.declared.Restored.{Restored}
 use Rattle.image.specs.declared.Restored.the-variants as Restored
-use Rattle.history.specs.Calls.{Call, quote, save, restore, observes, saves, restores, Acted, acted, afterRestore, act, run, History, newHistory, gains, historyMemory, historyRefusal, Kept, Past, newPast, orElse, keptWith, Told, told, tellQuote, tellSave, tellRestore, wrongRoom, tell, story, isSome, isRefused, Proper, OwnImages, ConfigWords}
+use Rattle.history.specs.Calls.{Call, quote, save, restore, observes, saves, restores, Acted, acted, afterRestore, act, run, History, newHistory, gains, historyMemory, historyRefusal, Kept, Past, newPast, orElse, keptWith, HistoryActed, historyActed, historyQuote, historySave, historyRestore, checkOutputLength, historyAct, historyRun, isSome, isRefused, Proper, OwnImages, ConfigWords}
 use Rattle.history.proofs.Holds.{Holds, new-holds, step-holds, quote-first, save-first, image-back}
 
 -- the history kept, if any, has the property
@@ -62,7 +62,7 @@ module _ (c : MicroPriceConfig) (e : valid c ≡ true) (fits : ConfigWords c) wh
     now-sound : Sound (P .now)
     all-kept : AllKept (P .kept)
 
-  record Agrees (a : Acted) (t : Told) : Type 0 where
+  record Agrees (a : Acted) (t : HistoryActed) : Type 0 where
     answers : a .answer ≡ t .answer
     memories : a .left ≡ historyMemory c (t .past .now)
     good : Good (t .past)
@@ -75,27 +75,27 @@ module _ (c : MicroPriceConfig) (e : valid c ≡ true) (fits : ConfigWords c) wh
   pub refusal-is : (H : History) → Sound H → (q : TopOfBook) → refusalBy (rule c) (judge c) (historyMemory c H) q ≡ historyRefusal c H q
   refusal-is H h q =
       quote-first c e (historyMemory c H) h q
-      ∙ ap (λ (m : Memory Previous). firstOf (firstOf (checkQuote c q) (refuseIf (earlier (historyMemory c H .last) q) 5)) (refuseIf (over (m .counts)) 6))
+      ∙ ap (λ (m : Memory Previous). firstOf (firstOf (checkQuote c q) (refuseIf (earlier (historyMemory c H .last) q) 5)) (refuseIf (overLimit (m .counts)) 6))
       (grown H q)
 
   sound-gains : (H : History) → Sound H → (q : TopOfBook) → AllWords (previousWords (Quoted q)) → historyRefusal c H q ≡ Fine → Sound (gains H q)
   sound-gains H h q words fine =
       let f = first-fine (firstOf (checkQuote c q) (refuseIf (earlier (historyMemory c H .last) q) 5))
-      (refuseIf (over (historyMemory c (gains H q) .counts)) 6) fine in
+      (refuseIf (overLimit (historyMemory c (gains H q) .counts)) 6) fine in
       let g = first-fine (checkQuote c q) (refuseIf (earlier (historyMemory c H .last) q) 5) (f .0) in
-      let inside : over (step (rule c) (historyMemory c H) q .counts) ≡ false =
-      ap (λ (m : Memory Previous). over (m .counts)) (grown H q) ∙ if-fine (over (historyMemory c (gains H q) .counts)) 6 (f .1) in
+      let inside : overLimit (step (rule c) (historyMemory c H) q .counts) ≡ false =
+      ap (λ (m : Memory Previous). overLimit (m .counts)) (grown H q) ∙ if-fine (overLimit (historyMemory c (gains H q) .counts)) 6 (f .1) in
       subst (Holds c) (grown H q) (step-holds c v (historyMemory c H) h q words (g .0) inside)
 
   quote-agrees : (P : Past) → Good P → (q : TopOfBook) → AllWords (previousWords (Quoted q))
-      → Agrees (act c (historyMemory c (P .now)) (quote q)) (tell c P (quote q))
+      → Agrees (act c (historyMemory c (P .now)) (quote q)) (historyAct c P (quote q))
   quote-agrees P G q words = go (refusalBy (rule c) (judge c) m q) (historyRefusal c (P .now) q) (refusal-is (P .now) (G .now-sound) q) (λ f. f)
     where
       m : Memory Previous
       m = historyMemory c (P .now)
 
       go : (k : Check) (k′ : Check) → k ≡ k′ → (k′ ≡ Fine → historyRefusal c (P .now) q ≡ Fine)
-          → Agrees (acted (observes (answered k m (step (rule c) m q) .answer)) (answered k m (step (rule c) m q) .left)) (tellQuote k′ P (gains (P .now) q))
+          → Agrees (acted (observes (answered k m (step (rule c) m q) .answer)) (answered k m (step (rule c) m q) .left)) (historyQuote k′ P (gains (P .now) q))
       go k Fine f g =
           rw f
           (record {
@@ -111,13 +111,13 @@ module _ (c : MicroPriceConfig) (e : valid c ≡ true) (fits : ConfigWords c) wh
 
   -- ---- a save
 
-  save-agrees : (P : Past) → Good P → (out : List ℕ) → Agrees (act c (historyMemory c (P .now)) (save out)) (tell c P (save out))
-  save-agrees P G out = go (saveRefusal c m (length out)) (wrongRoom c out) (save-first c e m (G .now-sound) (length out))
+  save-agrees : (P : Past) → Good P → (out : List ℕ) → Agrees (act c (historyMemory c (P .now)) (save out)) (historyAct c P (save out))
+  save-agrees P G out = go (saveRefusal c m (length out)) (checkOutputLength c out) (save-first c e m (G .now-sound) (length out))
     where
       m : Memory Previous
       m = historyMemory c (P .now)
 
-      go : (k k′ : Check) → k ≡ k′ → Agrees (acted (saves (savedUnless k out (image c m))) m) (tellSave k′ P out (image c m))
+      go : (k k′ : Check) → k ≡ k′ → Agrees (acted (saves (savedUnless k out (image c m))) m) (historySave k′ P out (image c m))
       go k Fine f =
           rw f
           (record {
@@ -141,19 +141,19 @@ module _ (c : MicroPriceConfig) (e : valid c ≡ true) (fits : ConfigWords c) wh
       (kept-is b ks (a .2))
 
   restore-agrees : (P : Past) → Good P → (b : List ℕ) (lent : Memory Previous) → Proper c P (restore b lent)
-      → Agrees (act c (historyMemory c (P .now)) (restore b lent)) (tell c P (restore b lent))
+      → Agrees (act c (historyMemory c (P .now)) (restore b lent)) (historyAct c P (restore b lent))
   restore-agrees P G b lent p = go (restored b lent) refl (lentWrong (states c) (lent .counts .tables)) refl (keptWith b (P .kept)) refl p
     where
       m : Memory Previous
       m = historyMemory c (P .now)
 
-      other : (a : Restored) (filled : Memory Previous) → T (isRefused a) → Agrees (acted (restores a) (afterRestore a m filled)) (told (restores a) P)
+      other : (a : Restored) (filled : Memory Previous) → T (isRefused a) → Agrees (acted (restores a) (afterRestore a m filled)) (historyActed (restores a) P)
       other (Restored.Config d) filled f = absurd f
       other (Restored.Refused r) filled f = record { answers = refl; memories = refl; good = G }
 
       go : (t : Taken) → restored b lent ≡ t → (w : Bool) → lentWrong (states c) (lent .counts .tables) ≡ w → (o : Option History) → keptWith b (P .kept) ≡ o
           → T ((not w && isSome o) || isRefused (t .answer))
-          → Agrees (acted (restores (t .answer)) (afterRestore (t .answer) m (t .left))) (tellRestore c P (t .answer) w o)
+          → Agrees (acted (restores (t .answer)) (afterRestore (t .answer) m (t .left))) (historyRestore c P (t .answer) w o)
       go t et true ew o eo f = other (t .answer) (t .left) f
       go t et false ew none eo f = other (t .answer) (t .left) f
       go t et false ew (some H) eo f =
@@ -169,21 +169,21 @@ module _ (c : MicroPriceConfig) (e : valid c ≡ true) (fits : ConfigWords c) wh
 
   -- ---- the list
 
-  call-agrees : (P : Past) → Good P → (k : Call) → Proper c P k → Agrees (act c (historyMemory c (P .now)) k) (tell c P k)
+  call-agrees : (P : Past) → Good P → (k : Call) → Proper c P k → Agrees (act c (historyMemory c (P .now)) k) (historyAct c P k)
   call-agrees P G (quote q) p = quote-agrees P G q p
   call-agrees P G (save out) p = save-agrees P G out
   call-agrees P G (restore b lent) p = restore-agrees P G b lent p
 
   pub record Claim (P : Past) (ks : List Call) : Type 0 where
-    pub answers : run c (historyMemory c (P .now)) ks .answers ≡ story c P ks .answers
-    pub memories : run c (historyMemory c (P .now)) ks .left ≡ historyMemory c (story c P ks .past .now)
-    pub holds : Holds c (historyMemory c (story c P ks .past .now))
+    pub answers : run c (historyMemory c (P .now)) ks .answers ≡ historyRun c P ks .answers
+    pub memories : run c (historyMemory c (P .now)) ks .left ≡ historyMemory c (historyRun c P ks .past .now)
+    pub holds : Holds c (historyMemory c (historyRun c P ks .past .now))
 
   from-here : (ks : List Call) (P : Past) → Good P → OwnImages c P ks → Claim P ks
   from-here [] P G o = record { answers = refl; memories = refl; holds = G .now-sound }
   from-here (k ∷ ks) P G o =
       let s = call-agrees P G k (o .0) in
-      let rest = from-here ks (tell c P k .past) (s .good) (o .1) in
+      let rest = from-here ks (historyAct c P k .past) (s .good) (o .1) in
       record {
         answers =
             λ i. s .answers i ∷ (ap (λ (m : Memory Previous). run c m ks .answers) (s .memories) ∙ rest .answers) i;
@@ -208,19 +208,19 @@ module _ (c : MicroPriceConfig) (e : valid c ≡ true) (fits : ConfigWords c) wh
 
   -- ---- a list in parts
 
-  good-after : (ks : List Call) (P : Past) → Good P → OwnImages c P ks → Good (story c P ks .past)
+  good-after : (ks : List Call) (P : Past) → Good P → OwnImages c P ks → Good (historyRun c P ks .past)
   good-after [] P G o = G
-  good-after (k ∷ ks) P G o = good-after ks (tell c P k .past) (call-agrees P G k (o .0) .good) (o .1)
+  good-after (k ∷ ks) P G o = good-after ks (historyAct c P k .past) (call-agrees P G k (o .0) .good) (o .1)
 
-  pub own-parts : (before ks : List Call) (P : Past) → OwnImages c P (before ++ ks) → OwnImages c P before × OwnImages c (story c P before .past) ks
+  pub own-parts : (before ks : List Call) (P : Past) → OwnImages c P (before ++ ks) → OwnImages c P before × OwnImages c (historyRun c P before .past) ks
   own-parts [] ks P o = (tt, o)
-  own-parts (k ∷ before) ks P o = let r = own-parts before ks (tell c P k .past) (o .1) in ((o .0, r .0), r .1)
+  own-parts (k ∷ before) ks P o = let r = own-parts before ks (historyAct c P k .past) (o .1) in ((o .0, r .0), r .1)
 
   -- a list after another
-  pub part-claim : (before ks : List Call) → OwnImages c (newPast c) (before ++ ks) → Claim (story c (newPast c) before .past) ks
+  pub part-claim : (before ks : List Call) → OwnImages c (newPast c) (before ++ ks) → Claim (historyRun c (newPast c) before .past) ks
   part-claim before ks o =
       let p = own-parts before ks (newPast c) o in
-      from-here ks (story c (newPast c) before .past) (good-after before (newPast c) new-good (p .0)) (p .1)
+      from-here ks (historyRun c (newPast c) before .past) (good-after before (newPast c) new-good (p .0)) (p .1)
 
 module _ (c : MicroPriceConfig) where
   -- it starts at new's counts
@@ -239,27 +239,27 @@ module _ (c : MicroPriceConfig) where
   found-new b [] a = tt
   found-new b (k ∷ ks) a = either-kept StartsNew (sameWords b (k .bytes)) (k .history) (keptWith b ks) (λ same. a .0) (found-new b ks (a .1))
 
-  tell-new : (P : Past) → New P → (k : Call) → New (tell c P k .past)
-  tell-new P n (quote q) = go (historyRefusal c (P .now) q)
+  act-new : (P : Past) → New P → (k : Call) → New (historyAct c P k .past)
+  act-new P n (quote q) = go (historyRefusal c (P .now) q)
     where
-      go : (k : Check) → New (tellQuote k P (gains (P .now) q) .past)
+      go : (k : Check) → New (historyQuote k P (gains (P .now) q) .past)
       go Fine = record { now-new = n .now-new; kept-new = n .kept-new }
       go (Refused r) = n
-  tell-new P n (save out) = go (wrongRoom c out)
+  act-new P n (save out) = go (checkOutputLength c out)
     where
-      go : (k : Check) → New (tellSave k P out (image c (historyMemory c (P .now))) .past)
+      go : (k : Check) → New (historySave k P out (image c (historyMemory c (P .now))) .past)
       go Fine = record { now-new = n .now-new; kept-new = (n .now-new, n .kept-new) }
       go (Refused r) = n
-  tell-new P n (restore b lent) = go (lentWrong (states c) (lent .counts .tables)) (keptWith b (P .kept)) refl
+  act-new P n (restore b lent) = go (lentWrong (states c) (lent .counts .tables)) (keptWith b (P .kept)) refl
     where
-      go : (w : Bool) (o : Option History) → keptWith b (P .kept) ≡ o → New (tellRestore c P (restored b lent .answer) w o .past)
+      go : (w : Bool) (o : Option History) → keptWith b (P .kept) ≡ o → New (historyRestore c P (restored b lent .answer) w o .past)
       go true o f = n
       go false none f = n
       go false (some H) f = record { now-new = subst (IfKept StartsNew) f (found-new b (P .kept) (n .kept-new)); kept-new = n .kept-new }
 
-  all-new : (ks : List Call) (P : Past) → New P → StartsNew (story c P ks .past .now)
+  all-new : (ks : List Call) (P : Past) → New P → StartsNew (historyRun c P ks .past .now)
   all-new [] P n = n .now-new
-  all-new (k ∷ ks) P n = all-new ks (tell c P k .past) (tell-new P n k)
+  all-new (k ∷ ks) P n = all-new ks (historyAct c P k .past) (act-new P n k)
 
-  pub starts-new : (ks : List Call) → story c (newPast c) ks .past .now .start ≡ fresh c .counts
+  pub starts-new : (ks : List Call) → historyRun c (newPast c) ks .past .now .start ≡ fresh c .counts
   starts-new ks = all-new ks (newPast c) (record { now-new = refl; kept-new = tt })

@@ -12,7 +12,7 @@ use Rattle.basics.proofs.Lists.{getD-tab, getD-square, flat-below, tab-ext}
 use Rattle.refusals.specs.declared.Check.{Check}
 use Rattle.refusals.specs.declared.Check.the-variants.{Fine, Refused}
 use Rattle.config.specs.Configuration.{states, valid}
-use Rattle.config.specs.Known.{Valid}
+use Rattle.config.specs.Inner.{Valid}
 use Rattle.config.specs.declared.MicroPriceConfig.{MicroPriceConfig}
 use Rattle.config.proofs.Known.{valid-known}
 use Rattle.quotes.specs.declared.TopOfBook.{TopOfBook}
@@ -25,11 +25,11 @@ use Rattle.calibrator.specs.declared.Previous.{Previous}
 use Rattle.calibrator.specs.declared.Previous.the-variants.{Nothing, Quoted}
 use Rattle.calibrator.proofs.Step.{rule-lawful}
 use Rattle.image.specs.Image.{saved}
-use Rattle.history.specs.Calls.{Call, save, restore, run, History, historyMemory, Past, newPast, tell, story, OwnImages, ConfigWords}
+use Rattle.history.specs.Calls.{Call, save, restore, run, History, historyMemory, Past, newPast, historyAct, historyRun, OwnImages, ConfigWords}
 use Rattle.history.specs.Demand.{left, historyOf, neighboursIn, flow, lastOf, wrote, Demand3}
 use Rattle.history.proofs.Holds.{save-image}
 use Rattle.history.proofs.Claim.{list-claim, own-parts, part-claim, empty-is, refusal-is, starts-new}
-use Rattle.history.proofs.Returns.{story-append, returns-to-save}
+use Rattle.history.proofs.Returns.{history-run-append, returns-to-save}
 
 answer-is : (k : Check) (m n : Memory Previous) → answered k m n .answer ≡ k
 answer-is Fine m n = refl
@@ -99,7 +99,7 @@ module _ (c : MicroPriceConfig) (e : valid c ≡ true) (fits : ConfigWords c) wh
 
   -- and what they answer to a list after another
   answers-after : (before ks : List Call) → OwnImages c (newPast c) (before ++ ks)
-      → run c (left c before) ks .answers ≡ story c (story c (newPast c) before .past) ks .answers
+      → run c (left c before) ks .answers ≡ historyRun c (historyRun c (newPast c) before .past) ks .answers
   answers-after before ks o =
       ap (λ (x : Memory Previous). run c x ks .answers) (left-after before (own-parts c e fits before ks (newPast c) o .0))
       ∙ part-claim c e fits before ks o .answers
@@ -116,11 +116,11 @@ module _ (c : MicroPriceConfig) (e : valid c ≡ true) (fits : ConfigWords c) wh
     three-parts = append-assoc to-save js (restore b lent ∷ []) ∙ append-assoc before (save out ∷ []) (js ++ (restore b lent ∷ []))
 
     -- what the operations answer in between is what the history says
-    others-told : OwnImages c (newPast c) to-restore → any (wrote b) (run c (left c to-save) js .answers) ≡ false
-        → any (wrote b) (story c (tell c (story c (newPast c) before .past) (save out) .past) js .answers) ≡ false
-    others-told o others =
+    others-in-history : OwnImages c (newPast c) to-restore → any (wrote b) (run c (left c to-save) js .answers) ≡ false
+        → any (wrote b) (historyRun c (historyAct c (historyRun c (newPast c) before .past) (save out) .past) js .answers) ≡ false
+    others-in-history o others =
         let own = own-parts c e fits (to-save ++ js) (restore b lent ∷ []) (newPast c) (subst (OwnImages c (newPast c)) (sym three-parts) o) .0 in
-        ap (λ (x : Past). any (wrote b) (story c x js .answers)) (sym (story-append c before (save out ∷ []) (newPast c)))
+        ap (λ (x : Past). any (wrote b) (historyRun c x js .answers)) (sym (history-run-append c before (save out ∷ []) (newPast c)))
         ∙ ap (any (wrote b)) (sym (answers-after to-save js own))
         ∙ others
 
@@ -157,7 +157,7 @@ module _ (c : MicroPriceConfig) (e : valid c ≡ true) (fits : ConfigWords c) wh
         restore-returns =
             λ before out js b lent is long written others sizes.
             ap (historyOf c) is
-            ∙ ap (λ (x : Past). x .now) (story-append c before (save out ∷ (js ++ (restore b lent ∷ []))) (newPast c))
-            ∙ returns-to-save c b (story c (newPast c) before .past) out js lent long written
-            (others-told before out js b lent (subst (OwnImages c (newPast c)) is o) others) sizes;
+            ∙ ap (λ (x : Past). x .now) (history-run-append c before (save out ∷ (js ++ (restore b lent ∷ []))) (newPast c))
+            ∙ returns-to-save c b (historyRun c (newPast c) before .past) out js lent long written
+            (others-in-history before out js b lent (subst (OwnImages c (newPast c)) is o) others) sizes;
       }

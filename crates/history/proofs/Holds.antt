@@ -11,17 +11,17 @@ use lib.ListN.{length, getD, replicate, length-replicate}
 use borrow.Author.Tests.{eq-eqb, leb-true, ltb-false, not-false}
 use Rattle.basics.specs.Lists.{any, allFrom}
 use Rattle.basics.proofs.Tests.{zero-not-one, neither, eqb-same}
-use Rattle.words.specs.Words.{twos, AllWords}
-use Rattle.words.proofs.Round.{all-append}
-use Rattle.signed.proofs.Sums.{change-size}
+use Rattle.image_words.specs.Words.{twos, AllWords}
+use Rattle.image_words.proofs.Round.{all-append}
+use Rattle.tally.proofs.Sums.{change-size}
 use Rattle.refusals.specs.Refusals.{refuseIf, firstOf, firstFrom}
 use Rattle.refusals.specs.declared.Check.{Check}
 use Rattle.refusals.specs.declared.Check.the-variants.{Fine, Refused}
 use Rattle.config.specs.Configuration.{states, valid}
-use Rattle.config.specs.Known.{Valid}
+use Rattle.config.specs.Inner.{Valid}
 use Rattle.config.specs.declared.MicroPriceConfig.{MicroPriceConfig}
 use Rattle.config.proofs.Known.{valid-known}
-use Rattle.quotes.specs.Known.{Accepted}
+use Rattle.quotes.specs.Inner.{Accepted}
 use Rattle.quotes.specs.Neighbours.{neighboursOf}
 use Rattle.quotes.specs.Quotes.{checkQuote}
 use Rattle.quotes.specs.States.{mirrorOf}
@@ -33,19 +33,19 @@ use Rattle.quotes.proofs.Pairs.{counted-made}
 use Rattle.quotes.proofs.Ticks.{half-ticks-most}
 use Rattle.tally.specs.Entries.{overCell, overTotal}
 use Rattle.tally.specs.Events.{Event, first, skip, pair, Counts, entered, after, sizeOf}
-use Rattle.tally.specs.Limits.{overCounter, over, touched}
+use Rattle.tally.specs.Limits.{overCounter, overLimit, touched}
 use Rattle.tally.specs.Rules.{Memory, step}
 use Rattle.tally.specs.Balance.{Sized, Balanced}
 use Rattle.tally.proofs.Step.{entered-after}
 use Rattle.tally.proofs.Balance.{after-none, after-sized, zeros-sized, zeros-balanced, after-balanced}
 use Rattle.tally.proofs.Overs.{Within, within-known, zeros-within, over-touched}
-use Rattle.mirrored.specs.Mirrors.{sameTotal, storedOver, totalMirrored, cellMirrored, rowMirrored, checkState, isTwice, checkCounts}
-use Rattle.calibrator.specs.Observe.{rule, fresh, eventFrom, eventOf, roomFor, broken, refuses, judge, refusalBy, earlier}
+use Rattle.count_check.specs.Mirrors.{sameTotal, storedOver, totalMirrored, cellMirrored, rowMirrored, checkState, isTwice, checkCounts}
+use Rattle.calibrator.specs.Observe.{rule, fresh, eventFrom, eventOf, checkMemory, broken, refuses, judge, refusalBy, earlier}
 use Rattle.calibrator.specs.declared.Previous.{Previous}
 use Rattle.calibrator.specs.declared.Previous.the-variants.{Nothing, Quoted}
 use Rattle.calibrator.proofs.Memories.{recordOf, record-back}
 use Rattle.calibrator.proofs.Step.{rule-lawful}
-use Rattle.layout.specs.Layout.{imageLength, previousWords, header, body, image}
+use Rattle.image_layout.specs.Layout.{imageLength, previousWords, header, body, image}
 use Rattle.image.specs.Image.{saveRefusal, saved, savedUnless, endRestore, restored, lentWrong}
 use Rattle.image.specs.declared.Restored.the-variants.{Config}
 use Rattle.image.proofs.Round.{restored-saved}
@@ -54,7 +54,7 @@ use Rattle.history.specs.Calls.{ConfigWords}
 pub record Holds (c : MicroPriceConfig) (m : Memory Previous) : Type 0 where
   pub sized : Sized (rule c .kinds) (states c) (m .counts)
   pub balanced : Balanced (states c) (mirrorOf (c .«imbalance_buckets»)) (m .counts)
-  pub within : over (m .counts) ≡ false
+  pub within : overLimit (m .counts) ≡ false
   pub sound : broken c (m .last) ≡ false
   pub last-fits : AllWords (previousWords (m .last))
   pub largest-fits : m .counts .largest < 2 ^ 64
@@ -105,7 +105,7 @@ module _ (c : MicroPriceConfig) (v : Valid c) where
         ∙ entered-after (rule c .kinds) (states c) (rule c .mirror) (rule-lawful c v .mirror-below) (m .counts) [] event (rule-lawful c v .event-in (m .last) q)
 
     -- an accepted quote keeps it
-    pub step-holds : AllWords (previousWords (Quoted q)) → checkQuote c q ≡ Fine → over (step (rule c) m q .counts) ≡ false → Holds c (step (rule c) m q)
+    pub step-holds : AllWords (previousWords (Quoted q)) → checkQuote c q ≡ Fine → overLimit (step (rule c) m q .counts) ≡ false → Holds c (step (rule c) m q)
     step-holds words fine inside =
         record {
           sized =
@@ -123,7 +123,7 @@ module _ (c : MicroPriceConfig) (v : Valid c) where
         }
 
     -- what it adds to passes a limit exactly if anything does
-    pub touched-is : touched (states c) (rule c .mirror) event (step (rule c) m q .counts) ≡ over (step (rule c) m q .counts)
+    pub touched-is : touched (states c) (rule c .mirror) event (step (rule c) m q .counts) ≡ overLimit (step (rule c) m q .counts)
     touched-is =
         sym
         (over-touched (rule c .kinds) (states c) (rule c .mirror) (rule-lawful c v .mirror-below) (m .counts) (h .sized) (h .within) event
@@ -143,7 +143,7 @@ same-own : (z : ℤ) → sameTotal z z ≡ true
 same-own (pos n) = eqb-same n
 same-own (negsuc n) = eqb-same n
 
-stored-in : (k : Counts) → over k ≡ false → storedOver k ≡ false
+stored-in : (k : Counts) → overLimit k ≡ false → storedOver k ≡ false
 stored-in k e = let w = within-known k e in rw (w .pairs-in, w .skips-in, w .totals-in)
 
 module _ (N : ℕ) (mirror : ℕ → ℕ) (k : Counts) (b : Balanced N mirror k) where
@@ -155,7 +155,7 @@ module _ (N : ℕ) (mirror : ℕ → ℕ) (k : Counts) (b : Balanced N mirror k)
       (λ j b′. let hj : j < N = omega arith in rw (eq-eqb _ _ (sym (b .stay-mirrored i j hi hj))) (eq-eqb _ _ (sym (b .moved-mirrored i j hi hj)))) in
       rw (t, r)
 
-  pub check-fine : over k ≡ false → checkCounts N mirror k ≡ Fine
+  pub check-fine : overLimit k ≡ false → checkCounts N mirror k ≡ Fine
   check-fine e =
       let t : isTwice (k .pairs) (k .tables) ≡ true = eq-eqb _ _ (b .twice) in
       rw (stored-in k e, first-all (checkState N mirror (k .tables)) 0 N (λ i b′. state-fine i (omega arith)), t)
@@ -170,8 +170,8 @@ module _ (c : MicroPriceConfig) (e : valid c ≡ true) (m : Memory Previous) (h 
   v : Valid c
   v = valid-known c e
 
-  pub room-fine : roomFor c m ≡ Fine
-  room-fine =
+  pub memory-fine : checkMemory c m ≡ Fine
+  memory-fine =
       let a = eq-eqb _ _ (h .sized .stay-cells) in
       let b = eq-eqb _ _ (h .sized .moved-cells) in
       let d = eq-eqb _ _ (h .sized .totals-cells) in
@@ -179,13 +179,14 @@ module _ (c : MicroPriceConfig) (e : valid c ≡ true) (m : Memory Previous) (h 
 
   -- a quote is refused by 2, 3, 4, 5 or 6
   pub quote-first : (q : TopOfBook)
-      → refusalBy (rule c) (judge c) m q ≡ firstOf (firstOf (checkQuote c q) (refuseIf (earlier (m .last) q) 5)) (refuseIf (over (step (rule c) m q .counts)) 6)
-  quote-first q = rw (room-fine, h .sound, touched-is c v m h q)
+      → refusalBy (rule c) (judge c) m q ≡ firstOf (firstOf (checkQuote c q) (refuseIf (earlier (m .last) q) 5))
+      (refuseIf (overLimit (step (rule c) m q .counts)) 6)
+  quote-first q = rw (memory-fine, h .sound, touched-is c v m h q)
 
   -- a save only by its output's length
   pub save-first : (long : ℕ) → saveRefusal c m long ≡ refuseIf (not (eqb long (imageLength c))) 7
   save-first long =
-      rw (room-fine, h .sound, check-fine (states c) (mirrorOf (c .«imbalance_buckets»)) (m .counts) (h .balanced) (h .within))
+      rw (memory-fine, h .sound, check-fine (states c) (mirrorOf (c .«imbalance_buckets»)) (m .counts) (h .balanced) (h .within))
       (first-last (refuseIf (not (eqb long (imageLength c))) 7))
 
   pub save-image : (out : List ℕ) → length out ≡ imageLength c → saved c m out ≡ savedUnless Fine out (image c m)
@@ -201,21 +202,21 @@ counters-fit (x ∷ l) e =
     let p = neither (overCounter x) (any overCounter l) e in
     (omega (arith, ltb-false (2 ^ 52) x (p .0)), counters-fit l (p .1))
 
-cells-fit : (l : List ℕ) → any overCell l ≡ false → AllWords l
-cells-fit [] e = tt
-cells-fit (x ∷ l) e =
+cells-within : (l : List ℕ) → any overCell l ≡ false → AllWords l
+cells-within [] e = tt
+cells-within (x ∷ l) e =
     let p = neither (overCell x) (any overCell l) e in
-    (omega (arith, ltb-false (2 ^ 53) x (p .0)), cells-fit l (p .1))
+    (omega (arith, ltb-false (2 ^ 53) x (p .0)), cells-within l (p .1))
 
 total-fits : (z : ℤ) → overTotal z ≡ false → twos z < 2 ^ 64
 total-fits (pos n) e = omega (arith, leb-true n (2 ^ 53) (not-false _ e))
 total-fits (negsuc n) e = omega arith
 
-totals-fit : (l : List ℤ) → any overTotal l ≡ false → AllWords (map twos l)
-totals-fit [] e = tt
-totals-fit (z ∷ l) e =
+totals-within : (l : List ℤ) → any overTotal l ≡ false → AllWords (map twos l)
+totals-within [] e = tt
+totals-within (z ∷ l) e =
     let p = neither (overTotal z) (any overTotal l) e in
-    (total-fits z (p .0), totals-fit l (p .1))
+    (total-fits z (p .0), totals-within l (p .1))
 
 module _ (c : MicroPriceConfig) (e : valid c ≡ true) (fits : ConfigWords c) (m : Memory Previous) (h : Holds c m) where
   w : Within (m .counts)
@@ -229,9 +230,10 @@ module _ (c : MicroPriceConfig) (e : valid c ≡ true) (fits : ConfigWords c) (m
 
   body-fits : AllWords (body (m .counts .tables))
   body-fits =
-      all-append (m .counts .tables .stay) (m .counts .tables .moved ++ map twos (m .counts .tables .totals)) (cells-fit (m .counts .tables .stay) (w .stay-in))
-      (all-append (m .counts .tables .moved) (map twos (m .counts .tables .totals)) (cells-fit (m .counts .tables .moved) (w .moved-in))
-      (totals-fit (m .counts .tables .totals) (w .totals-in)))
+      all-append (m .counts .tables .stay) (m .counts .tables .moved ++ map twos (m .counts .tables .totals))
+      (cells-within (m .counts .tables .stay) (w .stay-in))
+      (all-append (m .counts .tables .moved) (map twos (m .counts .tables .totals)) (cells-within (m .counts .tables .moved) (w .moved-in))
+      (totals-within (m .counts .tables .totals) (w .totals-in)))
 
   header-fits : AllWords (header c (m .last) (m .counts))
   unfolding header

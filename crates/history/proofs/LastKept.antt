@@ -6,7 +6,7 @@ use native.Mathlib.Omega.{arith}
 use lib.IntN.{pos}
 use lib.ListN.{replicate}
 use Rattle.basics.specs.Lists.{sum}
-use Rattle.words.specs.Words.{AllWords}
+use Rattle.image_words.specs.Words.{AllWords}
 use Rattle.refusals.specs.Refusals.{refusal}
 use Rattle.refusals.specs.declared.Check.the-variants as Check
 use Rattle.config.specs.Configuration.{newConfig}
@@ -18,7 +18,7 @@ use Rattle.tally.specs.Rules.{Memory}
 use Rattle.calibrator.specs.Observe.{fresh}
 use Rattle.calibrator.specs.declared.Previous.{Previous}
 use Rattle.calibrator.specs.declared.Previous.the-variants.{Nothing, Quoted}
-use Rattle.layout.specs.Layout.{header, headerIn, imageLength, image, previousWords}
+use Rattle.image_layout.specs.Layout.{header, headerIn, imageLength, image, previousWords}
 use Rattle.image.specs.Image.{endSave}
 use Rattle.image.specs.declared.Restored.the-variants as Restored
 use Rattle.history.specs.Calls.{Call, quote, save, restore, observes, saves, restores, run, History, newHistory, historyMemory, newPast, OwnImages, ConfigWords}
@@ -50,8 +50,8 @@ empty-image = imageOf (newHistory three-states)
 abbrev pub first-image : List ℕ
 first-image = imageOf first-history
 
-abbrev pub image-room : List ℕ
-image-room = replicate (imageLength three-states) 0
+abbrev pub empty-output : List ℕ
+empty-output = replicate (imageLength three-states) 0
 
 -- other memory for a restore, of the right lengths: a record and tables of sevens
 abbrev pub sevens : Memory Previous
@@ -74,10 +74,10 @@ two-states = record { last = Nothing; counts = zeros 2 2 }
 -- new and the first history are saved; new is restored, and the second history is gained
 abbrev pub before-second-save : List Call
 before-second-save =
-    save image-room ∷
+    save empty-output ∷
     quote (even-quote 0 5) ∷
     quote (even-quote 1 5) ∷
-    save image-room ∷
+    save empty-output ∷
     restore empty-image sevens ∷
     quote (even-quote 0 6) ∷
     quote (even-quote 1 5) ∷
@@ -89,7 +89,7 @@ refused-calls = save [] ∷ restore first-image two-states ∷ []
 
 -- the second history is saved, and the image of the first restored
 abbrev pub returning-calls : List Call
-returning-calls = before-second-save ++ (save image-room ∷ (refused-calls ++ (restore first-image sevens ∷ [])))
+returning-calls = before-second-save ++ (save empty-output ∷ (refused-calls ++ (restore first-image sevens ∷ [])))
 
 -- ---- what the list comes to
 
@@ -142,4 +142,4 @@ returning-demand = demand-3 three-states refl returning-words returning-calls re
 
 pub returned-to-save : historyOf three-states returning-calls ≡ historyOf three-states before-second-save
 unfolding header headerIn
-returned-to-save = returning-demand .restore-returns before-second-save image-room refused-calls first-image sevens refl refl refl refl refl
+returned-to-save = returning-demand .restore-returns before-second-save empty-output refused-calls first-image sevens refl refl refl refl refl

@@ -10,9 +10,9 @@ use lib.ListN.{length, getD, drop, length-drop, length-map}
 use borrow.Author.Tests.{eqb-true, le-ltb, ltb-false, not-false}
 use Rattle.basics.specs.Lists.{any, sum}
 use Rattle.basics.proofs.Tests.{zero-not-one, both, neither}
-use Rattle.words.specs.Words.{wordsOf, untwos, AllBytes, AllWords}
-use Rattle.words.proofs.Laws.{length-words}
-use Rattle.words.proofs.Round.{bytes-drop, words-fit}
+use Rattle.image_words.specs.Words.{wordsOf, untwos, AllBytes, AllWords}
+use Rattle.image_words.proofs.Laws.{length-words}
+use Rattle.image_words.proofs.Round.{bytes-drop, words-fit}
 use Rattle.refusals.specs.Refusals.{refuseIf, firstOf, firstFrom}
 use Rattle.refusals.specs.declared.Check.{Check}
 use Rattle.refusals.specs.declared.Check.the-variants.{Fine, Refused}
@@ -23,13 +23,13 @@ use Rattle.quotes.specs.States.{mirrorOf}
 use Rattle.tally.specs.Balance.{Sized, Balanced}
 use Rattle.tally.specs.Entries.{overCell, overTotal}
 use Rattle.tally.specs.Events.{Counts}
-use Rattle.tally.specs.Limits.{overCounter, over}
+use Rattle.tally.specs.Limits.{overCounter, overLimit}
 use Rattle.tally.specs.Rules.{Memory}
-use Rattle.mirrored.specs.Mirrors.{sameTotal, storedOver, totalMirrored, cellsAlike, cellMirrored, rowMirrored, checkState, isTwice, checkCounts}
-use Rattle.mirrored.proofs.Walks.{all-at}
+use Rattle.count_check.specs.Mirrors.{sameTotal, storedOver, totalMirrored, cellsAlike, cellMirrored, rowMirrored, checkState, isTwice, checkCounts}
+use Rattle.count_check.proofs.Walks.{all-at}
 use Rattle.calibrator.specs.declared.Previous.{Previous}
 use Rattle.calibrator.specs.declared.Previous.the-variants.{Nothing, Quoted}
-use Rattle.layout.specs.Layout.{word, previousWords, quoteIn, previousIn, configIn, memoryIn}
+use Rattle.image_layout.specs.Layout.{word, previousWords, quoteIn, previousIn, configIn, memoryIn}
 use Rattle.image.specs.Image.{takenUnless, restored, restoreRefusal}
 use Rattle.image.specs.declared.Restored.the-variants as Restored
 use Rattle.image.proofs.Judged.{restore-known}
@@ -92,7 +92,7 @@ module _ (N : ℕ) (mirror : ℕ → ℕ) (k : Counts) (fine : checkCounts N mir
         twice = cells-twice;
       }
 
-  check-within : over k ≡ false
+  check-within : overLimit k ≡ false
   check-within =
       let s = neither (overCounter (k .pairs) || any overCounter (k .skips)) (any overTotal (k .tables .totals)) stored in
       let c = neither (overCounter (k .pairs)) (any overCounter (k .skips)) (s .0) in

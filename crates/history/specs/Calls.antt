@@ -13,13 +13,13 @@ use Rattle.config.specs.declared.MicroPriceConfig.{MicroPriceConfig}
 use Rattle.quotes.specs.Quotes.{checkQuote}
 use Rattle.quotes.specs.declared.TopOfBook.{TopOfBook}
 use Rattle.tally.specs.Events.{Counts}
-use Rattle.tally.specs.Limits.{over}
+use Rattle.tally.specs.Limits.{overLimit}
 use Rattle.tally.specs.Rules.{Memory, memoryOf}
 use Rattle.calibrator.specs.Observe.{rule, fresh, earlier, observed}
 use Rattle.calibrator.specs.declared.Previous.{Previous}
 use Rattle.calibrator.specs.declared.Previous.the-variants.{Nothing, Quoted}
-use Rattle.words.specs.Words.{AllWords}
-use Rattle.layout.specs.Layout.{imageLength, image, previousWords, sameWords}
+use Rattle.image_words.specs.Words.{AllWords}
+use Rattle.image_layout.specs.Layout.{imageLength, image, previousWords, sameWords}
 use Rattle.image.specs.Image.{Saved, saved, savedUnless, restored, lentWrong}
 use Rattle.image.specs.declared.Restored.{Restored}
 use Rattle.image.specs.declared.Restored.the-variants as Restored
@@ -90,7 +90,7 @@ historyMemory c H = memoryOf (rule c) Nothing (H .start) (H .quotes)
 abbrev pub historyRefusal : MicroPriceConfig → History → TopOfBook → Check
 historyRefusal c H q =
     firstOf (firstOf (checkQuote c q) (refuseIf (earlier (historyMemory c H .last) q) 5))
-    (refuseIf (over (historyMemory c (gains H q) .counts)) 6)
+    (refuseIf (overLimit (historyMemory c (gains H q) .counts)) 6)
 
 pub record Kept : Type 0 where
   pub bytes : List ℕ
@@ -119,46 +119,46 @@ abbrev pub keptWith : List ℕ → List Kept → Option History
 keptWith b [] = none
 keptWith b (k ∷ ks) = orElse (sameWords b (k .bytes)) (k .history) (keptWith b ks)
 
-pub record Told : Type 0 where
+pub record HistoryActed : Type 0 where
   pub answer : Answer
   pub past : Past
 
-abbrev pub told : Answer → Past → Told
-told a P = record { answer = a; past = P }
+abbrev pub historyActed : Answer → Past → HistoryActed
+historyActed a P = record { answer = a; past = P }
 
-abbrev pub tellQuote : Check → Past → History → Told
-tellQuote Fine P H = told (observes Fine) (becomes P H)
-tellQuote (Refused r) P H = told (observes (Refused r)) P
+abbrev pub historyQuote : Check → Past → History → HistoryActed
+historyQuote Fine P H = historyActed (observes Fine) (becomes P H)
+historyQuote (Refused r) P H = historyActed (observes (Refused r)) P
 
 -- 7, or the history's image is written and kept
-abbrev pub tellSave : Check → Past → List ℕ → List ℕ → Told
-tellSave Fine P out b = told (saves (savedUnless Fine out b)) (keeps P b)
-tellSave (Refused r) P out b = told (saves (savedUnless (Refused r) out b)) P
+abbrev pub historySave : Check → Past → List ℕ → List ℕ → HistoryActed
+historySave Fine P out b = historyActed (saves (savedUnless Fine out b)) (keeps P b)
+historySave (Refused r) P out b = historyActed (saves (savedUnless (Refused r) out b)) P
 
 -- a kept image, into memory of the right lengths, brings its history back; another restore is refused
-abbrev pub tellRestore : MicroPriceConfig → Past → Restored → Bool → Option History → Told
-tellRestore c P a true o = told (restores a) P
-tellRestore c P a false none = told (restores a) P
-tellRestore c P a false (some H) = told (restores (Restored.Config c)) (becomes P H)
+abbrev pub historyRestore : MicroPriceConfig → Past → Restored → Bool → Option History → HistoryActed
+historyRestore c P a true o = historyActed (restores a) P
+historyRestore c P a false none = historyActed (restores a) P
+historyRestore c P a false (some H) = historyActed (restores (Restored.Config c)) (becomes P H)
 
-abbrev pub wrongRoom : MicroPriceConfig → List ℕ → Check
-wrongRoom c out = refuseIf (not (eqb (length out) (imageLength c))) 7
+abbrev pub checkOutputLength : MicroPriceConfig → List ℕ → Check
+checkOutputLength c out = refuseIf (not (eqb (length out) (imageLength c))) 7
 
-abbrev pub tell : MicroPriceConfig → Past → Call → Told
-tell c P (quote q) = tellQuote (historyRefusal c (P .now) q) P (gains (P .now) q)
-tell c P (save out) = tellSave (wrongRoom c out) P out (image c (historyMemory c (P .now)))
-tell c P (restore b lent) =
-    tellRestore c P (restored b lent .answer) (lentWrong (states c) (lent .counts .tables)) (keptWith b (P .kept))
+abbrev pub historyAct : MicroPriceConfig → Past → Call → HistoryActed
+historyAct c P (quote q) = historyQuote (historyRefusal c (P .now) q) P (gains (P .now) q)
+historyAct c P (save out) = historySave (checkOutputLength c out) P out (image c (historyMemory c (P .now)))
+historyAct c P (restore b lent) =
+    historyRestore c P (restored b lent .answer) (lentWrong (states c) (lent .counts .tables)) (keptWith b (P .kept))
 
-pub record Story : Type 0 where
+pub record HistoryRan : Type 0 where
   pub answers : List Answer
   pub past : Past
 
-abbrev pub story : MicroPriceConfig → Past → List Call → Story
-story c P [] = record { answers = []; past = P }
-story c P (k ∷ ks) =
-    let t = tell c P k in
-    let s = story c (t .past) ks in
+abbrev pub historyRun : MicroPriceConfig → Past → List Call → HistoryRan
+historyRun c P [] = record { answers = []; past = P }
+historyRun c P (k ∷ ks) =
+    let t = historyAct c P k in
+    let s = historyRun c (t .past) ks in
     record { answers = t .answer ∷ s .answers; past = s .past }
 
 -- ---- the proviso
@@ -180,7 +180,7 @@ Proper c P (restore b lent) =
 
 abbrev pub OwnImages : MicroPriceConfig → Past → List Call → Type 0
 OwnImages c P [] = Unit {0}
-OwnImages c P (k ∷ ks) = Proper c P k × OwnImages c (tell c P k .past) ks
+OwnImages c P (k ∷ ks) = Proper c P k × OwnImages c (historyAct c P k .past) ks
 
 -- what the types of a configuration's words give
 abbrev pub ConfigWords : MicroPriceConfig → Type 0

@@ -1,11 +1,11 @@
 -- Demand 3, of one configuration and one list of calls: document 01, "The history".
-use Prim.Native.Nat.{ℕ, _+_, _*_, _-_, _<_}
+use Prim.Native.Nat.{ℕ, _+_, _-_, _<_}
 use mathlib.Core.Path.{_≡_}
 use mathlib.Core.Bool.{Bool, false, not, _&&_}
 use mathlib.Core.List.{List, [], _∷_, _++_}
 use lib.IntN.{pos}
 use lib.ListN.{length, getD}
-use Rattle.basics.specs.Lists.{any, count, greatest, sum, tab}
+use Rattle.basics.specs.Lists.{any, count, greatest, sum, tab, cellAt}
 use Rattle.refusals.specs.declared.Check.the-variants.{Fine}
 use Rattle.config.specs.Configuration.{states}
 use Rattle.config.specs.declared.MicroPriceConfig.{MicroPriceConfig}
@@ -18,16 +18,16 @@ use Rattle.tally.specs.Balance.{Balanced}
 use Rattle.calibrator.specs.Observe.{rule, fresh, observed, refuses}
 use Rattle.calibrator.specs.declared.Previous.{Previous}
 use Rattle.calibrator.specs.declared.Previous.the-variants.{Nothing, Quoted}
-use Rattle.layout.specs.Layout.{imageLength, image, sameWords}
+use Rattle.image_layout.specs.Layout.{imageLength, image, sameWords}
 use Rattle.image.specs.Image.{saved, endSave, lentWrong}
-use Rattle.history.specs.Calls.{Call, save, restore, Answer, observes, saves, restores, run, History, historyMemory, historyRefusal, newPast, story}
+use Rattle.history.specs.Calls.{Call, save, restore, Answer, observes, saves, restores, run, History, historyMemory, historyRefusal, newPast, historyRun}
 
 -- what the operations leave after the list, and the history after it
 abbrev pub left : MicroPriceConfig → List Call → Memory Previous
 left c ks = run c (fresh c) ks .left
 
 abbrev pub historyOf : MicroPriceConfig → List Call → History
-historyOf c ks = story c (newPast c) ks .past .now
+historyOf c ks = historyRun c (newPast c) ks .past .now
 
 -- its neighbours, and its counted pairs, each followed by its mirror
 abbrev pub neighboursIn : MicroPriceConfig → History → List Event
@@ -50,14 +50,14 @@ wrote b (restores r) = false
 
 pub record Demand3 (c : MicroPriceConfig) (ks : List Call) : Type 0 where
   -- every answer and saved image, and after the list the record and tables, are the history's
-  pub answers : run c (fresh c) ks .answers ≡ story c (newPast c) ks .answers
+  pub answers : run c (fresh c) ks .answers ≡ historyRun c (newPast c) ks .answers
   pub memory : left c ks ≡ historyMemory c (historyOf c ks)
   -- the history starts at new's zeros, and the last quote is its last
   pub start-is : historyOf c ks .start ≡ fresh c .counts
   pub last-is : left c ks .last ≡ lastOf (historyOf c ks .quotes)
   -- each cell is the pairs and mirrors that go its way, each total the sum of the changes of those from its state
-  pub stay-is : (i j : ℕ) → i < states c → j < states c → getD (left c ks .counts .tables .stay) (i * states c + j) 0 ≡ stayAt (flow c (historyOf c ks)) i j
-  pub moved-is : (i j : ℕ) → i < states c → j < states c → getD (left c ks .counts .tables .moved) (i * states c + j) 0 ≡ movedAt (flow c (historyOf c ks)) i j
+  pub stay-is : (i j : ℕ) → i < states c → j < states c → cellAt (states c) (left c ks .counts .tables .stay) i j ≡ stayAt (flow c (historyOf c ks)) i j
+  pub moved-is : (i j : ℕ) → i < states c → j < states c → cellAt (states c) (left c ks .counts .tables .moved) i j ≡ movedAt (flow c (historyOf c ks)) i j
   pub total-is : (i : ℕ) → i < states c → getD (left c ks .counts .tables .totals) i (pos 0) ≡ totalAt (flow c (historyOf c ks)) i
   -- each counter is the number of its neighbours, the largest change their greatest
   pub pairs-are : left c ks .counts .pairs ≡ count isPair (neighboursIn c (historyOf c ks))

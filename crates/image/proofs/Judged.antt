@@ -10,31 +10,32 @@ use lib.ListN.{length, take, drop, length-take, length-drop}
 use lib.Seq.{drop-drop, take-take}
 use borrow.Author.Tests.{eqb-true, ltb-false, not-false}
 use Rattle.basics.proofs.Tests.{zero-not-one, both}
-use Rattle.words.specs.Words.{value, wordsOf, untwos}
+use Rattle.image_words.specs.Words.{value, wordsOf, untwos}
 use Rattle.refusals.specs.Refusals.{refuseIf, firstOf}
 use Rattle.refusals.specs.declared.Check.the-variants.{Fine}
 use Rattle.refusals.proofs.Refusals.{if-fine, first-fine}
 use Rattle.config.specs.Configuration.{states, valid, checkConfig}
-use Rattle.config.specs.Known.{Valid}
+use Rattle.config.specs.Inner.{Valid}
 use Rattle.config.specs.declared.MicroPriceConfig.{MicroPriceConfig}
 use Rattle.config.proofs.Known.{valid-known}
 use Rattle.tally.specs.Entries.{Tables, tables}
 use Rattle.tally.specs.Rules.{Memory}
-use Rattle.mirrored.specs.Mirrors.{checkMirrored}
-use Rattle.mirrored.specs.Lies.{tablesIn, Lies}
-use Rattle.calibrator.specs.Observe.{wrongLengths, roomFor, broken}
+use Rattle.count_check.specs.Mirrors.{checkMirrored}
+use Rattle.count_check.specs.Inner.{tablesIn, HasTables}
+use Rattle.calibrator.specs.Observe.{wrongLengths, checkMemory, broken}
 use Rattle.calibrator.specs.declared.Previous.{Previous}
-use Rattle.calibrator.proofs.Room.{room-known, lengths-known}
-use Rattle.layout.specs.Layout.{headerLength, cells, imageLength, header, configIn, previousIn, tablesFrom, memoryIn, headerIn, sameWords, laidOut}
-use Rattle.image.specs.Image.{saveRefusal, tooShort, lentWrong, heldRefusal, restoreRefusal, Readable}
-use Rattle.layout.proofs.Headers.{same-equal}
+use Rattle.calibrator.proofs.Lengths.{tables-known, lengths-known}
+use Rattle.image_layout.specs.Layout.{headerLength, cells, imageLength, header, configIn, previousIn, tablesFrom, memoryIn, headerIn, sameWords, laidOut}
+use Rattle.image.specs.Image.{saveRefusal, tooShort, lentWrong, heldRefusal, restoreRefusal}
+use Rattle.image.specs.Inner.{Readable}
+use Rattle.image_layout.proofs.Headers.{same-equal}
 
 -- ---- save
 
 pub record Savable (c : MicroPriceConfig) (m : Memory Previous) (long : ℕ) : Type 0 where
   pub valid-is : valid c ≡ true
   pub conf : Valid c
-  pub room : roomFor c m ≡ Fine
+  pub enough : checkMemory c m ≡ Fine
   pub sizes : wrongLengths (states c) (length (m .counts .tables .stay)) (length (m .counts .tables .moved)) (length (m .counts .tables .totals)) ≡ false
   pub long-is : long ≡ imageLength c
   pub sound : broken c (m .last) ≡ false
@@ -43,15 +44,15 @@ pub record Savable (c : MicroPriceConfig) (m : Memory Previous) (long : ℕ) : T
 pub save-known : (c : MicroPriceConfig) (m : Memory Previous) (long : ℕ) → saveRefusal c m long ≡ Fine → Savable c m long
 save-known c m long e =
     let last = firstOf (refuseIf (broken c (m .last)) 8) (checkMirrored c (m .counts)) in
-    let a = first-fine (roomFor c m) (firstOf (refuseIf (not (eqb long (imageLength c))) 7) last) e in
+    let a = first-fine (checkMemory c m) (firstOf (refuseIf (not (eqb long (imageLength c))) 7) last) e in
     let b = first-fine (refuseIf (not (eqb long (imageLength c))) 7) last (a .1) in
     let d = first-fine (refuseIf (broken c (m .last)) 8) (checkMirrored c (m .counts)) (b .1) in
-    let r = room-known c (length (m .counts .tables .stay)) (length (m .counts .tables .moved)) (length (m .counts .tables .totals)) (a .0) in
+    let r = tables-known c (length (m .counts .tables .stay)) (length (m .counts .tables .moved)) (length (m .counts .tables .totals)) (a .0) in
     let w = wrongLengths (states c) (length (m .counts .tables .stay)) (length (m .counts .tables .moved)) (length (m .counts .tables .totals)) in
     record {
       valid-is = not-false (valid c) (if-fine (not (valid c)) 1 (first-fine (checkConfig c) (refuseIf w 7) (a .0) .0));
       conf = r .0;
-      room = a .0;
+      enough = a .0;
       sizes = r .1;
       long-is = eqb-true long (imageLength c) (not-false _ (if-fine _ 7 (b .0)));
       sound = if-fine _ 8 (d .0);
@@ -154,7 +155,7 @@ module _ (b : List ℕ) (c : MicroPriceConfig) (v : Valid c) (whole : length b �
   in-totals : (length tb ≡ 8 * states c) × (wordsOf (length tb / 8) tb ≡ wordsOf (states c) (drop (160 + 16 * C) b))
   in-totals = part (states c) (length b - (160 + 16 * C)) (160 + 16 * C) b (omega arith) (omega arith)
 
-  pub parts-lie : (s m t : ℕ) → Lies true (states c) s m t (length sb) (length mb) (length tb)
+  pub parts-lie : (s m t : ℕ) → HasTables true (states c) s m t (length sb) (length mb) (length tb)
   parts-lie s m t =
       record {
         few = v .states-most;

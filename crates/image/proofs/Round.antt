@@ -13,34 +13,34 @@ use mir.Facts.{toZ-ofZ}
 use borrow.Author.Tests.{le-ltb, eq-eqb, leb-true, not-false}
 use Rattle.basics.specs.Lists.{any}
 use Rattle.basics.proofs.Tests.{zero-not-one, neither, eqb-same}
-use Rattle.words.specs.Words.{bytesOf, wordsOf, twos, untwos, AllBytes, AllWords}
-use Rattle.words.proofs.Laws.{length-bytes, length-words, words-at, words-part}
-use Rattle.words.proofs.Round.{words-back, bytes-back, bytes-drop, words-fit, words-join, twos-back}
-use Rattle.signed.specs.Totals.{within}
+use Rattle.image_words.specs.Words.{bytesOf, wordsOf, twos, untwos, AllBytes, AllWords}
+use Rattle.image_words.proofs.Laws.{length-bytes, length-words, words-at, words-part}
+use Rattle.image_words.proofs.Round.{words-back, bytes-back, bytes-drop, words-fit, words-join, twos-back}
+use Rattle.tally.specs.Totals.{within}
 use Rattle.refusals.specs.Refusals.{refuseIf, firstOf, firstFrom}
 use Rattle.refusals.specs.declared.Check.{Check}
 use Rattle.refusals.specs.declared.Check.the-variants.{Fine, Refused}
 use Rattle.refusals.proofs.Refusals.{if-fine, first-fine}
 use Rattle.config.specs.Configuration.{states, valid}
-use Rattle.config.specs.Known.{Valid}
+use Rattle.config.specs.Inner.{Valid}
 use Rattle.config.specs.declared.MicroPriceConfig.{MicroPriceConfig}
 use Rattle.quotes.specs.States.{mirrorOf}
 use Rattle.tally.specs.Entries.{Tables, tables, overTotal}
 use Rattle.tally.specs.Events.{Counts}
 use Rattle.tally.specs.Limits.{overCounter}
 use Rattle.tally.specs.Rules.{Memory}
-use Rattle.mirrored.specs.Mirrors.{checkMirrored, storedOver, checkState, isTwice, checkCounts}
-use Rattle.calibrator.specs.Observe.{roomFor, broken}
+use Rattle.count_check.specs.Mirrors.{checkMirrored, storedOver, checkState, isTwice, checkCounts}
+use Rattle.calibrator.specs.Observe.{checkMemory, broken}
 use Rattle.calibrator.specs.Record.{countsOf, memory}
 use Rattle.calibrator.specs.declared.Counters.{Counters}
 use Rattle.calibrator.specs.declared.Previous.{Previous}
 use Rattle.calibrator.specs.declared.Previous.the-variants.{Nothing, Quoted}
 use Rattle.calibrator.specs.declared.Record.{Record}
-use Rattle.calibrator.proofs.Room.{RightLengths, lengths-known}
-use Rattle.layout.specs.Layout.{cells, imageLength, header, body, image, word, configIn, previousIn, countersIn, tablesFrom, memoryIn, headerIn, sameWords, laidOut}
+use Rattle.calibrator.proofs.Lengths.{RightLengths, lengths-known}
+use Rattle.image_layout.specs.Layout.{cells, imageLength, header, body, image, word, configIn, previousIn, countersIn, tablesFrom, memoryIn, headerIn, sameWords, laidOut}
 use Rattle.image.specs.Image.{saveRefusal, endSave, savedUnless, saved, tooShort, lentWrong, heldRefusal, restoreRefusal, endRestore, takenUnless, restored}
 use Rattle.image.specs.declared.Restored.the-variants.{Config}
-use Rattle.layout.proofs.Parts.{length-header}
+use Rattle.image_layout.proofs.Parts.{length-header}
 use Rattle.image.proofs.Judged.{save-known, restore-known}
 use Rattle.image.proofs.Ways.{heldWith}
 
@@ -289,8 +289,8 @@ restore-fine : (x : Check) (b : List ℕ) (m : Memory Previous) (c : MicroPriceC
 restore-fine Fine b m c e = (refl, cc, refl)
 restore-fine (Refused r) b m c e = absurd (zero-not-one cc)
 
-held-room : (b : List ℕ) (t : Tables) → restoreRefusal b t ≡ Fine → roomFor (configIn b) (memoryIn b) ≡ Fine
-held-room b t e =
+held-lengths : (b : List ℕ) (t : Tables) → restoreRefusal b t ≡ Fine → checkMemory (configIn b) (memoryIn b) ≡ Fine
+held-lengths b t e =
     let k = restore-known b t e in
     let N = states (configIn b) in
     let B = drop 160 b in
@@ -306,9 +306,9 @@ pub saved-restored : (b : List ℕ) (lent : Memory Previous) (c : MicroPriceConf
 saved-restored b lent c out bytes e long =
     let f = restore-fine (restoreRefusal b (lent .counts .tables)) b lent c e in
     let k = restore-known b (lent .counts .tables) (f .0) in
-    let room = held-room b (lent .counts .tables) (f .0) in
+    let enough = held-lengths b (lent .counts .tables) (f .0) in
     let whole : eqb (length out) (imageLength (configIn b)) ≡ true = eq-eqb _ _ (long ∙ k .whole) in
-    let fine : saveRefusal (configIn b) (memoryIn b) (length out) ≡ Fine = rw (room, whole, k .sound, k .mirrored) in
+    let fine : saveRefusal (configIn b) (memoryIn b) (length out) ≡ Fine = rw (enough, whole, k .sound, k .mirrored) in
     (λ i. saved (sym (f .1) i) (f .2 i) out)
     ∙ ap (λ (x : Check). savedUnless x out (image (configIn b) (memoryIn b))) fine
     ∙ ap (endSave Fine) (accepted-image b (lent .counts .tables) bytes (f .0))

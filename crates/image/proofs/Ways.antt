@@ -8,7 +8,7 @@ use lib.IntN.{ℤ}
 use lib.ListN.{length, drop}
 use lib.Seq.{drop-drop}
 use borrow.Author.Tests.{lt-ltb, le-ltb, not-true, not-false}
-use Rattle.words.specs.Words.{wordsOf, untwos}
+use Rattle.image_words.specs.Words.{wordsOf, untwos}
 use Rattle.refusals.specs.Refusals.{refuseIf, firstOf, refusal}
 use Rattle.refusals.specs.declared.Check.{Check}
 use Rattle.refusals.specs.declared.Check.the-variants.{Fine, Refused}
@@ -21,9 +21,10 @@ use Rattle.calibrator.specs.Observe.{broken}
 use Rattle.calibrator.specs.Record.{countsOf, memory}
 use Rattle.calibrator.specs.declared.Previous.{Previous}
 use Rattle.calibrator.specs.declared.Record.{Record}
-use Rattle.mirrored.specs.Mirrors.{checkMirrored}
-use Rattle.layout.specs.Layout.{headerLength, cells, configIn, recordIn, tablesFrom, memoryIn, laidOut}
-use Rattle.image.specs.Image.{lentWrong, heldRefusal, restoreRefusal, endRestore, restored, Readable}
+use Rattle.count_check.specs.Mirrors.{checkMirrored}
+use Rattle.image_layout.specs.Layout.{headerLength, cells, configIn, recordIn, tablesFrom, memoryIn, laidOut}
+use Rattle.image.specs.Image.{lentWrong, heldRefusal, restoreRefusal, endRestore, restored}
+use Rattle.image.specs.Inner.{Readable}
 use Rattle.image.specs.declared.Restored.the-variants.{Config}
 
 -- ---- the judgement of an image, by what code finds of it in turn: its length, c of its header, v whether c is valid, l whether it is laid out

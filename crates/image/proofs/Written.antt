@@ -1,4 +1,4 @@
--- The four stores of an image, the header and the three tables: each finds its room in the output, and together they write the image.
+-- The four stores of an image, the header and the three tables: each lies within the output, and together they write the image.
 use Prim.Native.Nat.{ℕ, _+_, _*_, _≤_}
 use mathlib.Core.Path.{_≡_}
 use mathlib.Core.List.{List, [], map}
@@ -6,15 +6,15 @@ use native.Mathlib.Omega.{arith}
 use lib.IntN.{ℤ}
 use lib.ListN.{length}
 use lib.Seq.{sets}
-use Rattle.words.specs.Words.{bytesOf, twos}
+use Rattle.image_words.specs.Words.{bytesOf, twos}
 use Rattle.config.specs.Configuration.{states}
 use Rattle.config.specs.declared.MicroPriceConfig.{MicroPriceConfig}
 use Rattle.tally.specs.Entries.{tables}
 use Rattle.calibrator.specs.Record.{countsOf, memory}
 use Rattle.calibrator.specs.declared.Record.{Record}
-use Rattle.calibrator.proofs.Room.{RightLengths}
-use Rattle.layout.specs.Layout.{cells, imageLength, header, image}
-use Rattle.layout.proofs.Parts.{image-is}
+use Rattle.calibrator.proofs.Lengths.{RightLengths}
+use Rattle.image_layout.specs.Layout.{cells, imageLength, header, image}
+use Rattle.image_layout.proofs.Parts.{image-is}
 
 -- what writing rests on: tables of the configuration's lengths, an output of the image's
 pub record Writable (c : MicroPriceConfig) (s m : List ℕ) (t : List ℤ) (o : List ℕ) : Type 0 where
@@ -23,14 +23,14 @@ pub record Writable (c : MicroPriceConfig) (s m : List ℕ) (t : List ℤ) (o : 
 
 -- o is the output as it came, o₁ to o₄ as each store leaves it (of length l₁ and so on), C the number of cells as code has it
 module _ {c : MicroPriceConfig} {s m : List ℕ} {t : List ℤ} {o : List ℕ} (w : Writable c s m t o) where
-  pub stay-room : {l₁ : ℕ} → l₁ ≡ length o → 160 + 8 * length s ≤ l₁
-  stay-room e₁ = omega (arith, w .long, w .sizes .stay-cells)
+  pub stay-inside : {l₁ : ℕ} → l₁ ≡ length o → 160 + 8 * length s ≤ l₁
+  stay-inside e₁ = omega (arith, w .long, w .sizes .stay-cells)
 
-  pub moved-room : {C l₁ l₂ : ℕ} → C ≡ cells c → l₁ ≡ length o → l₂ ≡ l₁ → 160 + 8 * C + 8 * length m ≤ l₂
-  moved-room ec e₁ e₂ = omega (arith, w .long, w .sizes .moved-cells)
+  pub moved-inside : {C l₁ l₂ : ℕ} → C ≡ cells c → l₁ ≡ length o → l₂ ≡ l₁ → 160 + 8 * C + 8 * length m ≤ l₂
+  moved-inside ec e₁ e₂ = omega (arith, w .long, w .sizes .moved-cells)
 
-  pub totals-room : {C l₁ l₂ l₃ : ℕ} → C ≡ cells c → l₁ ≡ length o → l₂ ≡ l₁ → l₃ ≡ l₂ → 160 + 16 * C + 8 * length t ≤ l₃
-  totals-room ec e₁ e₂ e₃ = omega (arith, w .long, w .sizes .totals-cells)
+  pub totals-inside : {C l₁ l₂ l₃ : ℕ} → C ≡ cells c → l₁ ≡ length o → l₂ ≡ l₁ → l₃ ≡ l₂ → 160 + 16 * C + 8 * length t ≤ l₃
+  totals-inside ec e₁ e₂ e₃ = omega (arith, w .long, w .sizes .totals-cells)
 
   pub image-written : (r : Record) {C : ℕ} {h o₁ o₂ o₃ o₄ : List ℕ} → C ≡ cells c → h ≡ header c (r .previous) (countsOf (r .counters) (tables [] [] []))
       → o₁ ≡ sets o 0 (bytesOf h) → o₂ ≡ sets o₁ 160 (bytesOf s) → o₃ ≡ sets o₂ (160 + 8 * C) (bytesOf m)

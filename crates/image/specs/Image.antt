@@ -1,6 +1,5 @@
 -- Save and restore: document 01, "The image".
-use Prim.Native.Nat.{ℕ, _≤_}
-use mathlib.Core.Path.{_≡_}
+use Prim.Native.Nat.{ℕ}
 use mathlib.Core.Bool.{Bool, not}
 use mathlib.Core.List.{List}
 use lib.Dec.{ltb, eqb}
@@ -12,10 +11,10 @@ use Rattle.config.specs.Configuration.{states, checkConfig}
 use Rattle.config.specs.declared.MicroPriceConfig.{MicroPriceConfig}
 use Rattle.tally.specs.Entries.{Tables}
 use Rattle.tally.specs.Rules.{Memory}
-use Rattle.mirrored.specs.Mirrors.{checkMirrored}
-use Rattle.calibrator.specs.Observe.{wrongLengths, roomFor, broken}
+use Rattle.count_check.specs.Mirrors.{checkMirrored}
+use Rattle.calibrator.specs.Observe.{wrongLengths, checkMemory, broken}
 use Rattle.calibrator.specs.declared.Previous.{Previous}
-use Rattle.layout.specs.Layout.{headerLength, cells, imageLength, image, configIn, previousIn, memoryIn, laidOut}
+use Rattle.image_layout.specs.Layout.{headerLength, imageLength, image, configIn, previousIn, memoryIn, laidOut}
 use Rattle.image.specs.declared.Restored.{Restored}
 use Rattle.image.specs.declared.Restored.the-variants.{Config, Refused}
 
@@ -24,7 +23,7 @@ use Rattle.image.specs.declared.Restored.the-variants.{Config, Refused}
 -- 1, 7 (tables, output), 8, 6, 9, 10, 11
 abbrev pub saveRefusal : MicroPriceConfig → Memory Previous → ℕ → Check
 saveRefusal c m long =
-    firstOf (roomFor c m)
+    firstOf (checkMemory c m)
     (firstOf (refuseIf (not (eqb long (imageLength c))) 7)
     (firstOf (refuseIf (broken c (m .last)) 8) (checkMirrored c (m .counts))))
 
@@ -81,11 +80,3 @@ takenUnless (Check.Refused r) b m = endRestore (Refused r) m
 
 abbrev pub restored : List ℕ → Memory Previous → Taken
 restored b m = takenUnless (restoreRefusal b (m .counts .tables)) b m
-
--- what reading the tables asks of the lengths
-pub record Readable (b : List ℕ) (stay moved totals : ℕ) : Type 0 where
-  pub few : states (configIn b) ≤ 256
-  pub stay-cells : stay ≡ cells (configIn b)
-  pub moved-cells : moved ≡ cells (configIn b)
-  pub totals-cells : totals ≡ states (configIn b)
-  pub whole : length b ≡ imageLength (configIn b)

@@ -12,21 +12,22 @@ ghost use Prim.Native.Nat.{_+_, _*_, _≤_, _<_};
 ghost use lib.ListN.{length};
 ghost use Rattle.basics.specs.Loan.{given, final};
 ghost use Rattle.config.specs.Configuration.{states};
-ghost use Rattle.config.specs.Known.{Valid};
+ghost use Rattle.config.specs.Inner.{Valid};
 ghost use Rattle.tally.specs.Entries.{tables};
 ghost use Rattle.calibrator.specs.Record.{came, remains};
 ghost use Rattle.calibrator.specs.Observe.{broken, wrongLengths};
-ghost use Rattle.layout.specs.Layout.{cells, imageLength, image, configIn, recordIn, memoryIn};
-ghost use Rattle.image.specs.Image.{endSave, saved, saveRefusal, endRestore, restored, heldRefusal, restoreRefusal, Readable};
+ghost use Rattle.image_layout.specs.Layout.{cells, imageLength, image, configIn, recordIn, memoryIn};
+ghost use Rattle.image.specs.Image.{endSave, saved, saveRefusal, endRestore, restored, heldRefusal, restoreRefusal};
+ghost use Rattle.image.specs.Inner.{Readable};
 
 // Whether a last quote would be refused by 2, 3 or 4.
-fn is_broken(c: MicroPriceConfig, previous: Previous) -> bool
-    requires { ⌜ 1 ≤ c .«tick_size» ⌝ }
-    ensures { λ r. ⌜ r ≡ broken c previous ⌝ }
+fn is_broken(config: MicroPriceConfig, previous: Previous) -> bool
+    requires { ⌜ 1 ≤ config .«tick_size» ⌝ }
+    ensures { λ r. ⌜ r ≡ broken config previous ⌝ }
 {
     match previous {
         Previous::Nothing => false,
-        Previous::Quoted(q) => match quotes::inner::check_quote(c, q) {
+        Previous::Quoted(q) => match quotes::inner::check_quote(config, q) {
             Check::Fine => false,
             Check::Refused(_) => true,
         },
@@ -37,44 +38,49 @@ fn check_save(
     rec: Record,
     stay: &[u64],
     moved: &[u64],
-    totals: &[i64],
-    c: MicroPriceConfig,
+    move_half_ticks: &[i64],
+    config: MicroPriceConfig,
     long: usize,
 ) -> Check
-    ensures { λ r. ⌜ r ≡ saveRefusal c (came rec stay moved totals) long ⌝ }
+    ensures { λ r. ⌜ r ≡ saveRefusal config (came rec stay moved «move_half_ticks») long ⌝ }
 {
-    let room = calibrator::inner::check_room(c, stay.len(), moved.len(), totals.len());
-    let Check::Fine = room else {
-        return room;
+    let lengths = calibrator::inner::check_table_lengths(
+        config,
+        stay.len(),
+        moved.len(),
+        move_half_ticks.len(),
+    );
+    let Check::Fine = lengths else {
+        return lengths;
     };
-    if long != layout::image_length(c) {
+    if long != image_layout::image_length(config) {
         return Check::Refused(Refusal::SliceLength);
     }
     let previous = rec.previous;
-    if is_broken(c, previous) {
+    if is_broken(config, previous) {
         return Check::Refused(Refusal::LastQuoteBroken);
     }
     let counters = rec.counters;
-    mirrored::check_mirrored_counts(c, counters, stay, moved, totals)
+    count_check::check_mirrored_counts(config, counters, stay, moved, move_half_ticks)
 }
 
 fn write_image(
     rec: Record,
     stay: &[u64],
     moved: &[u64],
-    totals: &[i64],
-    c: MicroPriceConfig,
+    move_half_ticks: &[i64],
+    config: MicroPriceConfig,
     out: &mut [u8],
 )
-    requires { ⌜ Valid c × (wrongLengths (states c) (length (now stay)) (length (now moved)) (length (now totals)) ≡ false) × (length (now out) ≡ imageLength c) ⌝ }
-    ensures { λ _. ⌜ final out ≡ image c (came rec stay moved totals) ⌝ }
+    requires { ⌜ Valid config × (wrongLengths (states config) (length (now stay)) (length (now moved)) (length (now «move_half_ticks»)) ≡ false) × (length (now out) ≡ imageLength config) ⌝ }
+    ensures { λ _. ⌜ final out ≡ image config (came rec stay moved «move_half_ticks») ⌝ }
 {
-    let cells = layout::cell_count(c);
-    let h = layout::header_words(c, rec);
-    words::put_table(out, 0, &h);
-    words::put_table(out, layout::HEADER, stay);
-    words::put_table(out, layout::HEADER + 8 * cells, moved);
-    words::put_totals(out, layout::HEADER + 16 * cells, totals);
+    let cells = image_layout::cell_count(config);
+    let h = image_layout::header_words(config, rec);
+    image_words::put_table(out, 0, &h);
+    image_words::put_table(out, image_layout::HEADER, stay);
+    image_words::put_table(out, image_layout::HEADER + 8 * cells, moved);
+    image_words::put_totals(out, image_layout::HEADER + 16 * cells, move_half_ticks);
 }
 
 // The work of `save` on a record by value.
@@ -99,59 +105,69 @@ pub fn save(
 // 7, 8, then 6, 9, 10, 11, on an image whose header is judged.
 fn check_held(
     b: &[u8],
-    c: MicroPriceConfig,
+    config: MicroPriceConfig,
     rec: Record,
     stay: &[u64],
     moved: &[u64],
-    totals: &[i64],
+    move_half_ticks: &[i64],
 ) -> Check
-    requires { ⌜ Valid c × (c ≡ configIn (now b)) × (rec ≡ recordIn (now b)) × (length (now b) ≡ imageLength c) ⌝ }
-    ensures { λ r. ⌜ r ≡ heldRefusal (given b) (tables (given stay) (given moved) (given totals)) ⌝ }
+    requires { ⌜ Valid config × (config ≡ configIn (now b)) × (rec ≡ recordIn (now b)) × (length (now b) ≡ imageLength config) ⌝ }
+    ensures { λ r. ⌜ r ≡ heldRefusal (given b) (tables (given stay) (given moved) (given «move_half_ticks»)) ⌝ }
 {
-    let n = config::inner::state_count(c);
-    if calibrator::inner::wrong_lengths(n, stay.len(), moved.len(), totals.len()) {
+    let n = config::inner::state_count(config);
+    if calibrator::inner::wrong_lengths(n, stay.len(), moved.len(), move_half_ticks.len()) {
         return Check::Refused(Refusal::SliceLength);
     }
     let previous = rec.previous;
-    if is_broken(c, previous) {
+    if is_broken(config, previous) {
         return Check::Refused(Refusal::LastQuoteBroken);
     }
     let counters = rec.counters;
-    let cells = layout::cell_count(c);
-    let moved_at = layout::HEADER + 8 * cells;
-    let totals_at = layout::HEADER + 16 * cells;
-    let sb = &b[layout::HEADER..moved_at];
+    let cells = image_layout::cell_count(config);
+    let moved_at = image_layout::HEADER + 8 * cells;
+    let totals_at = image_layout::HEADER + 16 * cells;
+    let sb = &b[image_layout::HEADER..moved_at];
     let mb = &b[moved_at..totals_at];
     let tb = &b[totals_at..];
-    mirrored::check_tables(c, counters, stay, moved, totals, sb, mb, tb, true)
+    count_check::check_tables(
+        config,
+        counters,
+        stay,
+        moved,
+        move_half_ticks,
+        sb,
+        mb,
+        tb,
+        true,
+    )
 }
 
 // What refuses an image, judged on its bytes before anything is written.
-pub fn check_restore(b: &[u8], stay: &[u64], moved: &[u64], totals: &[i64]) -> Check
-    ensures { λ r. ⌜ r ≡ restoreRefusal (given b) (tables (given stay) (given moved) (given totals)) ⌝ }
+pub fn check_restore(b: &[u8], stay: &[u64], moved: &[u64], move_half_ticks: &[i64]) -> Check
+    ensures { λ r. ⌜ r ≡ restoreRefusal (given b) (tables (given stay) (given moved) (given «move_half_ticks»)) ⌝ }
 {
-    if b.len() < layout::HEADER {
+    if b.len() < image_layout::HEADER {
         return Check::Refused(Refusal::ImageLayout);
     }
-    let c = layout::config_in(b);
-    if !config::inner::is_valid(c) {
+    let config = image_layout::config_in(b);
+    if !config::inner::is_valid(config) {
         return Check::Refused(Refusal::Configuration);
     }
-    let rec = layout::record_in(b);
-    if !layout::is_laid_out(b, c, rec) {
+    let rec = image_layout::record_in(b);
+    if !image_layout::is_laid_out(b, config, rec) {
         return Check::Refused(Refusal::ImageLayout);
     }
-    check_held(b, c, rec, stay, moved, totals)
+    check_held(b, config, rec, stay, moved, move_half_ticks)
 }
 
-fn read_tables(b: &[u8], stay: &mut [u64], moved: &mut [u64], totals: &mut [i64])
-    requires { ⌜ Readable (now b) (length (now stay)) (length (now moved)) (length (now totals)) ⌝ }
-    ensures { λ _. ⌜ tables (final stay) (final moved) (final totals) ≡ memoryIn (given b) .counts .tables ⌝ }
+fn read_tables(b: &[u8], stay: &mut [u64], moved: &mut [u64], move_half_ticks: &mut [i64])
+    requires { ⌜ Readable (now b) (length (now stay)) (length (now moved)) (length (now «move_half_ticks»)) ⌝ }
+    ensures { λ _. ⌜ tables (final stay) (final moved) (final «move_half_ticks») ≡ memoryIn (given b) .counts .tables ⌝ }
 {
     let cells = stay.len();
-    words::get_table(b, layout::HEADER, stay);
-    words::get_table(b, layout::HEADER + 8 * cells, moved);
-    words::get_totals(b, layout::HEADER + 16 * cells, totals);
+    image_words::get_table(b, image_layout::HEADER, stay);
+    image_words::get_table(b, image_layout::HEADER + 8 * cells, moved);
+    image_words::get_totals(b, image_layout::HEADER + 16 * cells, move_half_ticks);
 }
 
 // The work of `restore` on a record by value.
@@ -171,8 +187,8 @@ pub fn restore(
             next: rec,
         };
     }
-    let config = layout::config_in(image);
-    let next = layout::record_in(image);
+    let config = image_layout::config_in(image);
+    let next = image_layout::record_in(image);
     read_tables(image, stay, moved, move_half_ticks);
     RestoreDone {
         answer: Restored::Config(config),

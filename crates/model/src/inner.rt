@@ -28,39 +28,39 @@ fn float_word(x: f64) -> u64
 }
 
 // Writes the row of state i.
-pub fn write_row(table: &mut [u64], i: usize, e: StateEstimate)
-    requires { ⌜ 7 * i + 7 ≤ length (now table) ⌝ }
-    ensures { λ _. ⌜ final table ≡ sets (given table) (7 * i) (rowWords e) ⌝ }
+pub fn write_row(model: &mut [u64], i: usize, e: StateEstimate)
+    requires { ⌜ 7 * i + 7 ≤ length (now model) ⌝ }
+    ensures { λ _. ⌜ final model ≡ sets (given model) (7 * i) (rowWords e) ⌝ }
 {
     let first_adjustment = float_word(e.first_adjustment);
     let adjustment = float_word(e.adjustment);
     let fallback_within_moves = float_word(e.fallback_within_moves);
     let at = 7 * i;
-    table[at] = e.imbalance_bucket;
-    table[at + 1] = e.spread_ticks;
-    table[at + 2] = e.observations;
-    table[at + 3] = first_adjustment;
-    table[at + 4] = adjustment;
-    table[at + 5] = fallback_within_moves;
-    table[at + 6] = e.status;
+    model[at] = e.imbalance_bucket;
+    model[at + 1] = e.spread_ticks;
+    model[at + 2] = e.observations;
+    model[at + 3] = first_adjustment;
+    model[at + 4] = adjustment;
+    model[at + 5] = fallback_within_moves;
+    model[at + 6] = e.status;
 }
 
 // Reads the row of state i.
-pub fn read_row(table: &[u64], i: usize) -> StateEstimate
-    requires { ⌜ 7 * i + 7 ≤ length (now table) ⌝ }
-    ensures { λ r. ⌜ r ≡ rowAt (given table) i ⌝ }
+pub fn read_row(model: &[u64], i: usize) -> StateEstimate
+    requires { ⌜ 7 * i + 7 ≤ length (now model) ⌝ }
+    ensures { λ r. ⌜ r ≡ rowAt (given model) i ⌝ }
 {
     let at = 7 * i;
-    let first_adjustment = floats::from_bits(table[at + 3]);
-    let adjustment = floats::from_bits(table[at + 4]);
-    let fallback_within_moves = floats::from_bits(table[at + 5]);
+    let first_adjustment = floats::from_bits(model[at + 3]);
+    let adjustment = floats::from_bits(model[at + 4]);
+    let fallback_within_moves = floats::from_bits(model[at + 5]);
     StateEstimate {
-        imbalance_bucket: table[at],
-        spread_ticks: table[at + 1],
-        observations: table[at + 2],
+        imbalance_bucket: model[at],
+        spread_ticks: model[at + 1],
+        observations: model[at + 2],
         first_adjustment: first_adjustment,
         adjustment: adjustment,
         fallback_within_moves: fallback_within_moves,
-        status: table[at + 6],
+        status: model[at + 6],
     }
 }

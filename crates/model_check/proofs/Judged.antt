@@ -10,7 +10,7 @@ use Rattle.refusals.specs.declared.Check.{Check}
 use Rattle.refusals.specs.declared.Check.the-variants.{Refused}
 use Rattle.refusals.specs.declared.Refusal.the-variants.{Configuration, SliceLength}
 use Rattle.config.specs.Configuration.{states, valid, checkConfig}
-use Rattle.config.specs.Known.{Valid}
+use Rattle.config.specs.Inner.{Valid}
 use Rattle.config.specs.declared.MicroPriceConfig.{MicroPriceConfig}
 use Rattle.config.proofs.Known.{valid-known}
 use Rattle.model_check.specs.Check.{wrongLength}

@@ -1,3 +1,2 @@
-pub mod Finite
 pub mod Answers
 pub mod Judged

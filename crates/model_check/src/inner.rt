@@ -1,4 +1,4 @@
-// Inner functions of the model check; `is_finite` and `half_spread_of` are for the signal too. Where one has a `requires`, each caller proves it.
+// Inner functions of the model check; `half_spread_of` is for the signal too. Where one has a `requires`, each caller proves it.
 use config::MicroPriceConfig;
 use model::StateEstimate;
 use refusals::Check;
@@ -6,20 +6,13 @@ use refusals::Refusal;
 ghost use mathlib.Core.Path.{_≡_};
 ghost use mathlib.Core.Bool.{_&&_};
 ghost use Prim.Native.Nat.{_*_, _<_};
-ghost use lib.Ieee.Scale.{finite};
 ghost use lib.ListN.{length};
 ghost use Rattle.basics.specs.Loan.{given};
 ghost use Rattle.refusals.specs.Refusals.{firstFrom};
 ghost use Rattle.config.specs.Configuration.{states};
-ghost use Rattle.config.specs.Known.{Valid};
+ghost use Rattle.config.specs.Inner.{Valid};
 ghost use Rattle.floats.specs.Floats.{minusZero};
 ghost use Rattle.model_check.specs.Check.{halfSpreadOf, bucketIs, spreadIs, floatsFinite, noMinusZero, shareInRange, insideQuotes, outsideQuotes, fallbackAtMid, stateMirrors, rowFine, checkRow};
-
-pub fn is_finite(x: f64) -> bool
-    ensures { λ r. ⌜ r ≡ finite x ⌝ }
-{
-    (x == x) & !floats::is_infinite(x)
-}
 
 fn is_minus_zero(x: f64) -> bool
     ensures { λ r. ⌜ r ≡ minusZero x ⌝ }
@@ -47,7 +40,9 @@ fn is_placed(config: MicroPriceConfig, i: usize, e: StateEstimate) -> bool
 fn floats_finite(e: StateEstimate) -> bool
     ensures { λ r. ⌜ r ≡ floatsFinite e ⌝ }
 {
-    is_finite(e.first_adjustment) & is_finite(e.adjustment) & is_finite(e.fallback_within_moves)
+    floats::is_finite(e.first_adjustment)
+        & floats::is_finite(e.adjustment)
+        & floats::is_finite(e.fallback_within_moves)
 }
 
 fn no_minus_zero(e: StateEstimate) -> bool
@@ -98,26 +93,26 @@ fn row_fine(config: MicroPriceConfig, i: usize, e: StateEstimate, mirror: StateE
         & state_mirrors(e, mirror)
 }
 
-fn check_row(config: MicroPriceConfig, table: &[u64], i: usize) -> Check
-    requires { ⌜ Valid config × (length (now table) ≡ 7 * states config) × (i < states config) ⌝ }
-    ensures { λ r. ⌜ r ≡ checkRow config (given table) i ⌝ }
+fn check_row(config: MicroPriceConfig, model: &[u64], i: usize) -> Check
+    requires { ⌜ Valid config × (length (now model) ≡ 7 * states config) × (i < states config) ⌝ }
+    ensures { λ r. ⌜ r ≡ checkRow config (given model) i ⌝ }
 {
     let m = quotes::inner::mirror_of(config.imbalance_buckets, i);
-    let e = model::inner::read_row(table, i);
-    let mirror = model::inner::read_row(table, m);
+    let e = model::inner::read_row(model, i);
+    let mirror = model::inner::read_row(model, m);
     if !row_fine(config, i, e, mirror) {
         return Check::Refused(Refusal::ModelRow(i));
     }
     Check::Fine
 }
 
-pub fn check_rows(config: MicroPriceConfig, table: &[u64], n: usize) -> Check
-    requires { ⌜ Valid config × (length (now table) ≡ 7 * states config) × (n ≡ states config) ⌝ }
-    ensures { λ r. ⌜ r ≡ firstFrom (checkRow config (given table)) 0 n ⌝ }
+pub fn check_rows(config: MicroPriceConfig, model: &[u64], n: usize) -> Check
+    requires { ⌜ Valid config × (length (now model) ≡ 7 * states config) × (n ≡ states config) ⌝ }
+    ensures { λ r. ⌜ r ≡ firstFrom (checkRow config (given model)) 0 n ⌝ }
 {
     let mut i: usize = 0;
     while i < n {
-        let k = check_row(config, table, i);
+        let k = check_row(config, model, i);
         let Check::Fine = k else {
             return k;
         };

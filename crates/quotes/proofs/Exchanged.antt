@@ -8,13 +8,13 @@ use Rattle.refusals.specs.Refusals.{firstOf}
 use Rattle.refusals.specs.declared.Check.{Check}
 use Rattle.refusals.specs.declared.Check.the-variants.{Fine, Refused}
 use Rattle.config.specs.Configuration.{most, valid, checkConfig}
-use Rattle.config.specs.Known.{Valid}
+use Rattle.config.specs.Inner.{Valid}
 use Rattle.config.specs.declared.MicroPriceConfig.{MicroPriceConfig}
 use Rattle.config.proofs.Known.{valid-known}
-use Rattle.quotes.specs.Quotes.{over, bad, checkQuote, spreadOf, halfTicks, exchanged}
-use Rattle.quotes.specs.States.{bucketOf, stateAt, at, mirrorAt, mirrorPlace, placeOf, unless, stateOf}
+use Rattle.quotes.specs.Quotes.{overDomain, badQuote, checkQuote, spreadOf, halfTicks, exchanged}
+use Rattle.quotes.specs.States.{bucketOf, stateAt, withMirror, mirrorAt, mirrorPlace, placeOf, unless, stateOf}
 use Rattle.quotes.specs.Neighbours.{paired, mirrorNeighbours, neighboursOf}
-use Rattle.quotes.specs.Known.{Accepted}
+use Rattle.quotes.specs.Inner.{Accepted}
 use Rattle.quotes.specs.declared.At.{At}
 use Rattle.quotes.specs.declared.Neighbours.{Neighbours}
 use Rattle.quotes.specs.declared.Neighbours.the-variants.{Skipped}
@@ -39,8 +39,9 @@ last-two false x y = or-comm x y
 
 pub check-exchanged : (c : MicroPriceConfig) (q : TopOfBook) → checkQuote c (exchanged q) ≡ checkQuote c q
 check-exchanged c q =
-    let o : over (exchanged q) ≡ over q = last-two (ltb most (q .bid) || ltb most (q .ask)) (ltb most (q .«ask_size»)) (ltb most (q .«bid_size»)) in
-    let b : bad (exchanged q) ≡ bad q = ap (λ t. eqb (q .bid) 0 || leb (q .ask) (q .bid) || t) (and-comm (eqb (q .«ask_size») 0) (eqb (q .«bid_size») 0)) in
+    let o : overDomain (exchanged q) ≡ overDomain q = last-two (ltb most (q .bid) || ltb most (q .ask)) (ltb most (q .«ask_size»)) (ltb most (q .«bid_size»)) in
+    let b : badQuote (exchanged q) ≡ badQuote q =
+    ap (λ t. eqb (q .bid) 0 || leb (q .ask) (q .bid) || t) (and-comm (eqb (q .«ask_size») 0) (eqb (q .«bid_size») 0)) in
     rw (o, b)
 
 picked : (t : Bool) (a b : At) → b ≡ mirrorAt a → cond t (NoState SpreadOutOfRange) (State b) ≡ mirrorPlace (cond t (NoState SpreadOutOfRange) (State a))
@@ -54,7 +55,7 @@ place-exchanged c q v f =
     let b = bucketOf (q .«bid_size») (q .«ask_size») n in
     let l : b < n = omega (arith, bucket-le (q .«bid_size») (q .«ask_size») n, v .n-least) in
     let i = stateAt n (spreadOf c q) b in
-    picked (ltb (c .«spread_states») (spreadOf c q)) (at n i) _
+    picked (ltb (c .«spread_states») (spreadOf c q)) (withMirror n i) _
     (rw (bucket-exchanged (q .«bid_size») (q .«ask_size») n (f .some-size) (v .n-least) (v .n-odd), ← mirror-row n (spreadOf c q - 1) b l)
     (mirror-at n i (omega (arith, v .n-least))))
 

@@ -10,8 +10,8 @@ use Rattle.refusals.proofs.Refusals.{if-fine, first-fine}
 use Rattle.refusals.specs.declared.Check.the-variants.{Fine}
 use Rattle.config.specs.Configuration.{most}
 use Rattle.config.specs.declared.MicroPriceConfig.{MicroPriceConfig}
-use Rattle.quotes.specs.Quotes.{over, bad, onGrid, offTick, checkQuote}
-use Rattle.quotes.specs.Known.{Accepted}
+use Rattle.quotes.specs.Quotes.{overDomain, badQuote, onGrid, offTick, checkQuote}
+use Rattle.quotes.specs.Inner.{Accepted}
 use Rattle.quotes.specs.declared.TopOfBook.{TopOfBook}
 use Rattle.basics.proofs.Tests.{zero-not-one, neither}
 
@@ -22,9 +22,9 @@ some (suc x) y e = omega arith
 
 pub fine-known : (c : MicroPriceConfig) (q : TopOfBook) → checkQuote c q ≡ Fine → Accepted c q
 fine-known c q e =
-    let a = first-fine (refuseIf (over q) 2) (firstOf (refuseIf (bad q) 3) (refuseIf (offTick c q) 4)) e in
-    let i = first-fine (refuseIf (bad q) 3) (refuseIf (offTick c q) 4) (a .1) in
-    let l : (over q ≡ false) × (bad q ≡ false) × (offTick c q ≡ false) = (if-fine _ 2 (a .0), if-fine _ 3 (i .0), if-fine _ 4 (i .1)) in
+    let a = first-fine (refuseIf (overDomain q) 2) (firstOf (refuseIf (badQuote q) 3) (refuseIf (offTick c q) 4)) e in
+    let i = first-fine (refuseIf (badQuote q) 3) (refuseIf (offTick c q) 4) (a .1) in
+    let l : (overDomain q ≡ false) × (badQuote q ≡ false) × (offTick c q ≡ false) = (if-fine _ 2 (a .0), if-fine _ 3 (i .0), if-fine _ 4 (i .1)) in
     let o = neither (ltb most (q .bid) || ltb most (q .ask) || ltb most (q .«bid_size»)) (ltb most (q .«ask_size»)) (l .0) in
     let p = neither (ltb most (q .bid) || ltb most (q .ask)) (ltb most (q .«bid_size»)) (o .0) in
     let r = neither (ltb most (q .bid)) (ltb most (q .ask)) (p .0) in

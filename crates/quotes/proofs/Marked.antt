@@ -9,10 +9,10 @@ use Rattle.refusals.specs.declared.Check.the-variants.{Refused}
 use Rattle.config.specs.Configuration.{newConfig, withMinStateObservations, withMaxQuoteGapMs}
 use Rattle.config.specs.declared.MicroPriceConfig.{MicroPriceConfig}
 use Rattle.quotes.specs.Quotes.{checkQuote}
-use Rattle.quotes.specs.States.{at, stateOf, mirrored}
+use Rattle.quotes.specs.States.{withMirror, stateOf, mirrorStateOf}
 use Rattle.quotes.specs.Neighbours.{neighboursOf}
-use Rattle.quotes.specs.declared.Mirrored.{Mirrored}
-use Rattle.quotes.specs.declared.Mirrored.the-variants as Mirror
+use Rattle.quotes.specs.declared.MirrorState.{MirrorState}
+use Rattle.quotes.specs.declared.MirrorState.the-variants as Mirror
 use Rattle.quotes.specs.declared.Neighbours.{Neighbours}
 use Rattle.quotes.specs.declared.Neighbours.the-variants.{Skipped, Counted}
 use Rattle.quotes.specs.declared.Skip.the-variants.{Gap}
@@ -36,13 +36,13 @@ pub data Question : Type 0 where
 
 pub data Answer : Type 0 where
   place : Place → Answer
-  mirrors : Mirrored → Answer
+  mirrors : MirrorState → Answer
   neighbours : Neighbours → Answer
   check : Check → Answer
 
 abbrev pub answer : Question → Answer
 answer (sizes x y) = place (stateOf (marked 1) (quote 0 100 101 x y))
-answer (mirror i) = mirrors (mirrored (marked 1) i)
+answer (mirror i) = mirrors (mirrorStateOf (marked 1) i)
 answer (gap ms) = neighbours (neighboursOf (marked 1) (quote 0 100 101 5 5) (quote ms 100 101 5 5))
 answer (offered tick q) = check (checkQuote (marked tick) q)
 
@@ -55,7 +55,7 @@ row q a = record { asks = q; gives = a }
 
 -- at a spread of one tick the state is the bucket
 abbrev bucket : ℕ → Answer
-bucket b = place (State (at 3 b))
+bucket b = place (State (withMirror 3 b))
 
 abbrev pub table : List Row
 table =
@@ -69,7 +69,7 @@ table =
     row (mirror 0) (mirrors (Mirror.State 2)) ∷
     row (mirror 4) (mirrors (Mirror.State 4)) ∷
     row (mirror 3) (mirrors (Mirror.State 5)) ∷
-    row (gap 1000) (neighbours (Counted (record { from = at 3 1; to = at 3 1; «mid_from» = 201; «mid_to» = 201 }))) ∷
+    row (gap 1000) (neighbours (Counted (record { from = withMirror 3 1; to = withMirror 3 1; «mid_from» = 201; «mid_to» = 201 }))) ∷
     row (gap 1001) (neighbours (Skipped Gap)) ∷
     row (offered 5 (quote 0 100 107 5 5)) (check (Refused (refusal 4))) ∷
     []

@@ -10,12 +10,12 @@ use Rattle.basics.proofs.Tests.{zero-not-one}
 use Rattle.refusals.specs.declared.Check.{Check}
 use Rattle.refusals.specs.declared.Check.the-variants.{Fine, Refused}
 use Rattle.config.specs.Configuration.{states, valid}
-use Rattle.config.specs.Known.{Valid}
+use Rattle.config.specs.Inner.{Valid}
 use Rattle.config.specs.declared.MicroPriceConfig.{MicroPriceConfig}
 use Rattle.config.proofs.Known.{valid-known}
 use Rattle.quotes.specs.Quotes.{spreadOf, checkQuote}
-use Rattle.quotes.specs.States.{bucketOf, stateAt, spreadIn, bucketIn, mirrorOf, at, mirrorAt, placeOf, stateOf}
-use Rattle.quotes.specs.Known.{Accepted, Located}
+use Rattle.quotes.specs.States.{bucketOf, stateAt, spreadIn, bucketIn, mirrorOf, withMirror, mirrorAt, placeOf, stateOf}
+use Rattle.quotes.specs.Inner.{Accepted, Located}
 use Rattle.quotes.specs.declared.At.{At}
 use Rattle.quotes.specs.declared.Place.the-variants.{State, NoState}
 use Rattle.quotes.specs.declared.Reason.the-variants.{SpreadOutOfRange}
@@ -65,7 +65,7 @@ module _ (n i : ℕ) (some : 1 ≤ n) where
   mirror-below s h = rw (mirror-is n i) (row-below n s (i / n) _ (div-lt-iff-lt-mul some .1 (rw mul-comm h)) turned-less)
 
   -- a state with its mirror, exchanged, is its mirror with the state
-  pub mirror-at : at n (mirrorOf n i) ≡ mirrorAt (at n i)
+  pub mirror-at : withMirror n (mirrorOf n i) ≡ mirrorAt (withMirror n i)
   mirror-at = rw (mirror-involution)
 
 -- a place that is a state has its spread in range
@@ -97,7 +97,7 @@ place-spread c q v f a e =
     let n = c .«imbalance_buckets» in
     let b = bucketOf (q .«bid_size») (q .«ask_size») n in
     let l : b < n = omega (arith, bucket-le (q .«bid_size») (q .«ask_size») n, v .n-least) in
-    let p = placed (ltb (c .«spread_states») (spreadOf c q)) (at n (stateAt n (spreadOf c q) b)) a e in
+    let p = placed (ltb (c .«spread_states») (spreadOf c q)) (withMirror n (stateAt n (spreadOf c q) b)) a e in
     rw (← p .1, flat-row n (spreadOf c q - 1) b l) (omega (arith, spread-least c q v f))
 
 -- a quote has a state only if nothing refuses it

@@ -3,10 +3,10 @@ use Prim.Native.Nat.{_+_, _-_, _*_, _/_, _≤_, _<_}
 use mathlib.Core.Path.{_≡_, sym}
 use native.Mathlib.Omega.{arith}
 use native.Mathlib.Nat.{div-add-mod', lt-of-mul-lt-mul-right, add-mul, mul-sub, mul-comm, div-eq-of-eq-mul-left, div-le-self}
-use Rattle.config.specs.Known.{Valid}
+use Rattle.config.specs.Inner.{Valid}
 use Rattle.config.specs.declared.MicroPriceConfig.{MicroPriceConfig}
 use Rattle.quotes.specs.Quotes.{inTicks, spreadOf, halfTicks}
-use Rattle.quotes.specs.Known.{Accepted}
+use Rattle.quotes.specs.Inner.{Accepted}
 use Rattle.quotes.specs.declared.TopOfBook.{TopOfBook}
 
 module _ (c : MicroPriceConfig) (q : TopOfBook) (v : Valid c) (f : Accepted c q) where

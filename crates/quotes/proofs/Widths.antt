@@ -3,7 +3,7 @@ use Prim.Native.Nat.{ℕ, _*_, _≤_, _<_}
 use native.Mathlib.Nat.{mul-le-mul, div-le-self}
 use native.Mathlib.Omega.{arith}
 use Rattle.config.specs.Configuration.{states}
-use Rattle.config.specs.Known.{Valid}
+use Rattle.config.specs.Inner.{Valid}
 use Rattle.config.specs.declared.MicroPriceConfig.{MicroPriceConfig}
 use Rattle.quotes.specs.States.{spreadIn}
 

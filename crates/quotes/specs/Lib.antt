@@ -1,4 +1,4 @@
 pub mod Quotes
 pub mod States
 pub mod Neighbours
-pub mod Known
+pub mod Inner

@@ -9,12 +9,12 @@ use Rattle.config.specs.declared.MicroPriceConfig.{MicroPriceConfig}
 use Rattle.quotes.specs.declared.TopOfBook.{TopOfBook}
 
 -- 2: a price or a size over the domain
-abbrev pub over : TopOfBook → Bool
-over q = ltb most (q .bid) || ltb most (q .ask) || ltb most (q .«bid_size») || ltb most (q .«ask_size»)
+abbrev pub overDomain : TopOfBook → Bool
+overDomain q = ltb most (q .bid) || ltb most (q .ask) || ltb most (q .«bid_size») || ltb most (q .«ask_size»)
 
 -- 3: bid 0, ask ≤ bid, both sizes 0
-abbrev pub bad : TopOfBook → Bool
-bad q = eqb (q .bid) 0 || leb (q .ask) (q .bid) || eqb (q .«bid_size») 0 && eqb (q .«ask_size») 0
+abbrev pub badQuote : TopOfBook → Bool
+badQuote q = eqb (q .bid) 0 || leb (q .ask) (q .bid) || eqb (q .«bid_size») 0 && eqb (q .«ask_size») 0
 
 -- a price that is a multiple of the tick
 abbrev pub onGrid : MicroPriceConfig → ℕ → Bool
@@ -30,7 +30,7 @@ offTick c q = not (onGrid c (q .bid)) || not (onGrid c (q .ask))
 
 -- the refusals of a quote by itself, in their order
 abbrev pub checkQuote : MicroPriceConfig → TopOfBook → Check
-checkQuote c q = firstOf (refuseIf (over q) 2) (firstOf (refuseIf (bad q) 3) (refuseIf (offTick c q) 4))
+checkQuote c q = firstOf (refuseIf (overDomain q) 2) (firstOf (refuseIf (badQuote q) 3) (refuseIf (offTick c q) 4))
 
 -- the spread in ticks
 abbrev pub spreadOf : MicroPriceConfig → TopOfBook → ℕ

@@ -9,8 +9,8 @@ use Rattle.config.specs.Configuration.{states, valid, checkConfig}
 use Rattle.config.specs.declared.MicroPriceConfig.{MicroPriceConfig}
 use Rattle.quotes.specs.Quotes.{checkQuote, spreadOf}
 use Rattle.quotes.specs.declared.At.{At}
-use Rattle.quotes.specs.declared.Mirrored.{Mirrored}
-use Rattle.quotes.specs.declared.Mirrored.the-variants as Mirror
+use Rattle.quotes.specs.declared.MirrorState.{MirrorState}
+use Rattle.quotes.specs.declared.MirrorState.the-variants as Mirror
 use Rattle.quotes.specs.declared.Place.{Place}
 use Rattle.quotes.specs.declared.Place.the-variants.{State, NoState}
 use Rattle.quotes.specs.declared.Reason.the-variants.{SpreadOutOfRange, Unusable}
@@ -46,8 +46,8 @@ abbrev pub mirrorOf : ℕ → ℕ → ℕ
 mirrorOf n i = stateAt n (spreadIn n i) (n - 1 - bucketIn n i)
 
 -- a state with its mirror
-abbrev pub at : ℕ → ℕ → At
-at n i = record { state = i; mirror = mirrorOf n i }
+abbrev pub withMirror : ℕ → ℕ → At
+withMirror n i = record { state = i; mirror = mirrorOf n i }
 
 -- the same two, exchanged
 abbrev pub mirrorAt : At → At
@@ -63,7 +63,7 @@ abbrev pub placeOf : MicroPriceConfig → TopOfBook → Place
 placeOf c q =
     cond (ltb (c .«spread_states») (spreadOf c q)) (NoState SpreadOutOfRange)
     (State
-    (at (c .«imbalance_buckets»)
+    (withMirror (c .«imbalance_buckets»)
     (stateAt (c .«imbalance_buckets») (spreadOf c q) (bucketOf (q .«bid_size») (q .«ask_size») (c .«imbalance_buckets»)))))
 
 -- a place, unless refused
@@ -76,5 +76,5 @@ abbrev pub stateOf : MicroPriceConfig → TopOfBook → Place
 stateOf c q = unless (firstOf (checkConfig c) (checkQuote c q)) (placeOf c q)
 
 -- the mirror of any number: none where it is no state of a valid configuration
-abbrev pub mirrored : MicroPriceConfig → ℕ → Mirrored
-mirrored c i = cond (valid c && ltb i (states c)) (Mirror.State (mirrorOf (c .«imbalance_buckets») i)) Mirror.NoState
+abbrev pub mirrorStateOf : MicroPriceConfig → ℕ → MirrorState
+mirrorStateOf c i = cond (valid c && ltb i (states c)) (Mirror.State (mirrorOf (c .«imbalance_buckets») i)) Mirror.NoState

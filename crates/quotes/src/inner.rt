@@ -11,50 +11,50 @@ use config::inner::DOMAIN;
 use refusals::Check;
 use refusals::Refusal;
 ghost use mathlib.Core.Path.{_≡_};
-ghost use Prim.Native.Nat.{_+_, _-_, _*_, _≤_, _<_, min, max};
-ghost use Rattle.config.specs.Known.{Valid};
-ghost use Rattle.quotes.specs.Quotes.{over, bad, onGrid, inTicks, offTick, checkQuote, spreadOf, halfTicks};
-ghost use Rattle.quotes.specs.Known.{Accepted};
+ghost use Prim.Native.Nat.{_+_, _-_, _*_, _≤_, _<_};
+ghost use Rattle.config.specs.Inner.{Valid};
+ghost use Rattle.quotes.specs.Quotes.{overDomain, badQuote, onGrid, inTicks, offTick, checkQuote, spreadOf, halfTicks};
+ghost use Rattle.quotes.specs.Inner.{Accepted};
 ghost use Rattle.quotes.specs.States.{lowerBucket, bucketOf, mirrorOf, placeOf};
 ghost use Rattle.quotes.specs.Neighbours.{paired, neighboursOf};
 
 fn is_over(q: TopOfBook) -> bool
-    ensures { λ r. ⌜ r ≡ over q ⌝ }
+    ensures { λ r. ⌜ r ≡ overDomain q ⌝ }
 {
     (DOMAIN < q.bid) | (DOMAIN < q.ask) | (DOMAIN < q.bid_size) | (DOMAIN < q.ask_size)
 }
 
 fn is_bad(q: TopOfBook) -> bool
-    ensures { λ r. ⌜ r ≡ bad q ⌝ }
+    ensures { λ r. ⌜ r ≡ badQuote q ⌝ }
 {
     (q.bid == 0) | (q.ask <= q.bid) | ((q.bid_size == 0) & (q.ask_size == 0))
 }
 
-fn on_grid(c: MicroPriceConfig, price: u64) -> bool
-    requires { ⌜ 1 ≤ c .«tick_size» ⌝ }
-    ensures { λ r. ⌜ r ≡ onGrid c price ⌝ }
+fn on_grid(config: MicroPriceConfig, price: u64) -> bool
+    requires { ⌜ 1 ≤ config .«tick_size» ⌝ }
+    ensures { λ r. ⌜ r ≡ onGrid config price ⌝ }
 {
-    price % c.tick_size == 0
+    price % config.tick_size == 0
 }
 
-fn in_ticks(c: MicroPriceConfig, price: u64) -> u64
-    requires { ⌜ 1 ≤ c .«tick_size» ⌝ }
-    ensures { λ r. ⌜ r ≡ inTicks c price ⌝ }
+fn in_ticks(config: MicroPriceConfig, price: u64) -> u64
+    requires { ⌜ 1 ≤ config .«tick_size» ⌝ }
+    ensures { λ r. ⌜ r ≡ inTicks config price ⌝ }
 {
-    price / c.tick_size
+    price / config.tick_size
 }
 
-fn is_off_tick(c: MicroPriceConfig, q: TopOfBook) -> bool
-    requires { ⌜ 1 ≤ c .«tick_size» ⌝ }
-    ensures { λ r. ⌜ r ≡ offTick c q ⌝ }
+fn is_off_tick(config: MicroPriceConfig, q: TopOfBook) -> bool
+    requires { ⌜ 1 ≤ config .«tick_size» ⌝ }
+    ensures { λ r. ⌜ r ≡ offTick config q ⌝ }
 {
-    !on_grid(c, q.bid) | !on_grid(c, q.ask)
+    !on_grid(config, q.bid) | !on_grid(config, q.ask)
 }
 
 // The first of refusals 2, 3 and 4.
-pub fn check_quote(c: MicroPriceConfig, q: TopOfBook) -> Check
-    requires { ⌜ 1 ≤ c .«tick_size» ⌝ }
-    ensures { λ r. ⌜ r ≡ checkQuote c q ⌝ }
+pub fn check_quote(config: MicroPriceConfig, q: TopOfBook) -> Check
+    requires { ⌜ 1 ≤ config .«tick_size» ⌝ }
+    ensures { λ r. ⌜ r ≡ checkQuote config q ⌝ }
 {
     if is_over(q) {
         return Check::Refused(Refusal::OverDomain);
@@ -62,22 +62,10 @@ pub fn check_quote(c: MicroPriceConfig, q: TopOfBook) -> Check
     if is_bad(q) {
         return Check::Refused(Refusal::BadQuote);
     }
-    if is_off_tick(c, q) {
+    if is_off_tick(config, q) {
         return Check::Refused(Refusal::OffTick);
     }
     Check::Fine
-}
-
-fn smaller(a: u64, b: u64) -> u64
-    ensures { λ r. ⌜ r ≡ min a b ⌝ }
-{
-    if a <= b { a } else { b }
-}
-
-fn larger(a: u64, b: u64) -> u64
-    ensures { λ r. ⌜ r ≡ max a b ⌝ }
-{
-    if a <= b { b } else { a }
 }
 
 // The bucket of a book with `lighter` on the bid, by one division; 1 stands in for 0, as both give bucket 0.
@@ -85,7 +73,7 @@ fn lower_bucket(lighter: u64, heavier: u64, n: u64) -> u64
     requires { ⌜ (lighter ≤ heavier) × (1 ≤ heavier) × (heavier ≤ 1000000000) × (2 ≤ n) × (n ≤ 256) ⌝ }
     ensures { λ r. ⌜ r ≡ lowerBucket lighter heavier n ⌝ }
 {
-    let scaled = larger(lighter * n, 1);
+    let scaled = basics::larger(lighter * n, 1);
     (scaled - 1) / (lighter + heavier)
 }
 
@@ -93,34 +81,34 @@ fn bucket_of(bid: u64, ask: u64, n: u64) -> u64
     requires { ⌜ (bid ≤ 1000000000) × (ask ≤ 1000000000) × (1 ≤ bid + ask) × (2 ≤ n) × (n ≤ 256) ⌝ }
     ensures { λ r. ⌜ r ≡ bucketOf bid ask n ⌝ }
 {
-    let b = lower_bucket(smaller(bid, ask), larger(bid, ask), n);
+    let b = lower_bucket(basics::smaller(bid, ask), basics::larger(bid, ask), n);
     if bid <= ask { b } else { n - 1 - b }
 }
 
-fn spread_of(c: MicroPriceConfig, q: TopOfBook) -> u64
-    requires { ⌜ Valid c × Accepted c q ⌝ }
-    ensures { λ r. ⌜ r ≡ spreadOf c q ⌝ }
+fn spread_of(config: MicroPriceConfig, q: TopOfBook) -> u64
+    requires { ⌜ Valid config × Accepted config q ⌝ }
+    ensures { λ r. ⌜ r ≡ spreadOf config q ⌝ }
 {
-    in_ticks(c, q.ask) - in_ticks(c, q.bid)
+    in_ticks(config, q.ask) - in_ticks(config, q.bid)
 }
 
-pub fn half_ticks(c: MicroPriceConfig, q: TopOfBook) -> u64
-    requires { ⌜ Valid c × Accepted c q ⌝ }
-    ensures { λ r. ⌜ r ≡ halfTicks c q ⌝ }
+pub fn half_ticks(config: MicroPriceConfig, q: TopOfBook) -> u64
+    requires { ⌜ Valid config × Accepted config q ⌝ }
+    ensures { λ r. ⌜ r ≡ halfTicks config q ⌝ }
 {
-    in_ticks(c, q.bid) + in_ticks(c, q.ask)
+    in_ticks(config, q.bid) + in_ticks(config, q.ask)
 }
 
 // The place of an accepted quote. The mirror's number takes no remainder.
-pub fn place_of(c: MicroPriceConfig, q: TopOfBook) -> Place
-    requires { ⌜ Valid c × Accepted c q ⌝ }
-    ensures { λ r. ⌜ r ≡ placeOf c q ⌝ }
+pub fn place_of(config: MicroPriceConfig, q: TopOfBook) -> Place
+    requires { ⌜ Valid config × Accepted config q ⌝ }
+    ensures { λ r. ⌜ r ≡ placeOf config q ⌝ }
 {
-    let spread = spread_of(c, q);
-    if c.spread_states < spread {
+    let spread = spread_of(config, q);
+    if config.spread_states < spread {
         return Place::NoState(Reason::SpreadOutOfRange);
     }
-    let n = c.imbalance_buckets;
+    let n = config.imbalance_buckets;
     let bucket = bucket_of(q.bid_size, q.ask_size, n);
     let first = (spread - 1) * n;
     Place::State(At {
@@ -138,12 +126,12 @@ pub fn mirror_of(n: u64, state: usize) -> usize
     state - bucket + (w - 1 - bucket)
 }
 
-fn pair_of(c: MicroPriceConfig, p: TopOfBook, q: TopOfBook) -> Neighbours
-    requires { ⌜ Valid c × Accepted c p × Accepted c q ⌝ }
-    ensures { λ r. ⌜ r ≡ paired (placeOf c p) (placeOf c q) (halfTicks c p) (halfTicks c q) ⌝ }
+fn pair_of(config: MicroPriceConfig, p: TopOfBook, q: TopOfBook) -> Neighbours
+    requires { ⌜ Valid config × Accepted config p × Accepted config q ⌝ }
+    ensures { λ r. ⌜ r ≡ paired (placeOf config p) (placeOf config q) (halfTicks config p) (halfTicks config q) ⌝ }
 {
-    let a = place_of(c, p);
-    let b = place_of(c, q);
+    let a = place_of(config, p);
+    let b = place_of(config, q);
     let Place::State(from) = a else {
         return Neighbours::Skipped(Skip::Spread);
     };
@@ -153,18 +141,18 @@ fn pair_of(c: MicroPriceConfig, p: TopOfBook, q: TopOfBook) -> Neighbours
     Neighbours::Counted(Pair {
         from,
         to,
-        mid_from: half_ticks(c, p),
-        mid_to: half_ticks(c, q),
+        mid_from: half_ticks(config, p),
+        mid_to: half_ticks(config, q),
     })
 }
 
 // What two accepted quotes are, the earlier one first.
-pub fn neighbours(c: MicroPriceConfig, p: TopOfBook, q: TopOfBook) -> Neighbours
-    requires { ⌜ Valid c × Accepted c p × Accepted c q × (p .«timestamp_ms» ≤ q .«timestamp_ms») ⌝ }
-    ensures { λ r. ⌜ r ≡ neighboursOf c p q ⌝ }
+pub fn neighbours(config: MicroPriceConfig, p: TopOfBook, q: TopOfBook) -> Neighbours
+    requires { ⌜ Valid config × Accepted config p × Accepted config q × (p .«timestamp_ms» ≤ q .«timestamp_ms») ⌝ }
+    ensures { λ r. ⌜ r ≡ neighboursOf config p q ⌝ }
 {
-    if c.max_quote_gap_ms < q.timestamp_ms - p.timestamp_ms {
+    if config.max_quote_gap_ms < q.timestamp_ms - p.timestamp_ms {
         return Neighbours::Skipped(Skip::Gap);
     }
-    pair_of(c, p, q)
+    pair_of(config, p, q)
 }

@@ -6,7 +6,7 @@ use refusals::Refusal;
 pub mod inner;
 
 ghost use mathlib.Core.Path.{_≡_};
-ghost use Rattle.quotes.specs.States.{stateOf, mirrored};
+ghost use Rattle.quotes.specs.States.{stateOf, mirrorStateOf};
 
 // Best bid and ask with their sizes, in whole units.
 pub struct TopOfBook {
@@ -37,7 +37,7 @@ pub enum Place {
 }
 
 // The mirror of a number of a state.
-pub enum Mirrored {
+pub enum MirrorState {
     State(usize),
     // The configuration has no such state.
     NoState,
@@ -78,14 +78,14 @@ pub fn state_of(config: MicroPriceConfig, quote: TopOfBook) -> Place
 }
 
 // The state with the imbalance bucket mirrored.
-pub fn mirror(config: MicroPriceConfig, state: usize) -> Mirrored
-    ensures { λ r. ⌜ r ≡ mirrored config state ⌝ }
+pub fn mirror(config: MicroPriceConfig, state: usize) -> MirrorState
+    ensures { λ r. ⌜ r ≡ mirrorStateOf config state ⌝ }
 {
     if !config::inner::is_valid(config) {
-        return Mirrored::NoState;
+        return MirrorState::NoState;
     }
     if config::inner::state_count(config) <= state {
-        return Mirrored::NoState;
+        return MirrorState::NoState;
     }
-    Mirrored::State(inner::mirror_of(config.imbalance_buckets, state))
+    MirrorState::State(inner::mirror_of(config.imbalance_buckets, state))
 }

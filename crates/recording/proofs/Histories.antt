@@ -14,20 +14,20 @@ use Rattle.refusals.specs.declared.Check.{Check}
 use Rattle.refusals.specs.declared.Check.the-variants.{Fine, Refused}
 use Rattle.refusals.specs.declared.Refusal.{Refusal}
 use Rattle.config.specs.Configuration.{states, valid}
-use Rattle.config.specs.Known.{Valid}
+use Rattle.config.specs.Inner.{Valid}
 use Rattle.config.specs.declared.MicroPriceConfig.{MicroPriceConfig}
 use Rattle.config.proofs.Known.{valid-known}
-use Rattle.quotes.specs.Quotes.{over as overDomain, bad, offTick, checkQuote}
+use Rattle.quotes.specs.Quotes.{overDomain, badQuote, offTick, checkQuote}
 use Rattle.quotes.specs.declared.TopOfBook.{TopOfBook}
 use Rattle.tally.specs.Balance.{Sized}
 use Rattle.tally.specs.Events.{zeros}
-use Rattle.tally.specs.Limits.{over, touched}
+use Rattle.tally.specs.Limits.{overLimit, touched}
 use Rattle.tally.specs.Rules.{Memory, step, events, memoryOf}
 use Rattle.tally.proofs.Balance.{after-none, after-sized, zeros-sized}
 use Rattle.tally.proofs.Overs.{zeros-within, over-touched}
 use Rattle.tally.proofs.Step.{carried-snoc, step-memory}
 use Rattle.calibrator.specs.Record.{Outcome, answered}
-use Rattle.calibrator.specs.Observe.{rule, roomFor, broken, earlier, judge, refusalBy, observed, fresh}
+use Rattle.calibrator.specs.Observe.{rule, checkMemory, broken, earlier, judge, refusalBy, observed, fresh}
 use Rattle.calibrator.specs.declared.Previous.{Previous}
 use Rattle.calibrator.specs.declared.Previous.the-variants.{Nothing}
 use Rattle.calibrator.proofs.Step.{rule-lawful}
@@ -45,7 +45,7 @@ data Judged (k : Check) : Type 0 where
   invalid : (r : Refusal) → k ≡ Refused r → isInvalid (Refused r) ≡ true → isStop (Refused r) ≡ false → Judged k
 
 judged : (c : MicroPriceConfig) (q : TopOfBook) → Judged (checkQuote c q)
-judged c q = go (overDomain q) (bad q) (offTick c q)
+judged c q = go (overDomain q) (badQuote q) (offTick c q)
   where
     go : (a b d : Bool) → Judged (firstOf (refuseIf a 2) (firstOf (refuseIf b 3) (refuseIf d 4)))
     go true b d = stopped refl
@@ -72,8 +72,8 @@ module _ (c : MicroPriceConfig) (e : valid c ≡ true) where
   sized : (H : List TopOfBook) → Sized 2 (states c) (held c H .counts)
   sized H = after-sized 2 (states c) (rule c .mirror) (zeros 2 (states c)) (events (rule c) Nothing H)
 
-  room : (H : List TopOfBook) → roomFor c (held c H) ≡ Fine
-  room H =
+  enough : (H : List TopOfBook) → checkMemory c (held c H) ≡ Fine
+  enough H =
       let s = sized H in
       rw (e, eq-eqb _ _ (s .stay-cells), eq-eqb _ _ (s .moved-cells), eq-eqb _ _ (s .totals-cells))
 
@@ -81,11 +81,11 @@ module _ (c : MicroPriceConfig) (e : valid c ≡ true) where
   record Ready (t : ℕ) (H : List TopOfBook) : Type 0 where
     sound : broken c (held c H .last) ≡ false
     late : (q : TopOfBook) → t ≤ q .«timestamp_ms» → earlier (held c H .last) q ≡ false
-    within : over (held c H .counts) ≡ false
+    within : overLimit (held c H .counts) ≡ false
 
   -- the history with a quote passes a limit
   abbrev passes : List TopOfBook → TopOfBook → Bool
-  passes H q = over (held c (H ++ q ∷ []) .counts)
+  passes H q = overLimit (held c (H ++ q ∷ []) .counts)
 
   one-more : (H : List TopOfBook) (q : TopOfBook) → step (rule c) (held c H) q ≡ held c (H ++ q ∷ [])
   one-more H q = step-memory (rule c) (rule-lawful c v) Nothing (zeros 2 (states c)) H q
@@ -96,11 +96,11 @@ module _ (c : MicroPriceConfig) (e : valid c ≡ true) where
     six =
         sym (over-touched 2 (states c) (rule c .mirror) (rule-lawful c v .mirror-below) (held c H .counts) (sized H) (h .within)
         (rule c .event (held c H .last) q) (rule-lawful c v .event-in (held c H .last) q))
-        ∙ ap (λ (m : Memory Previous). over (m .counts)) (one-more H q)
+        ∙ ap (λ (m : Memory Previous). overLimit (m .counts)) (one-more H q)
 
     -- such a quote is refused by 2, 3, 4 or 6
     refusal-is : t ≤ q .«timestamp_ms» → refusalBy (rule c) (judge c) (held c H) q ≡ firstOf (checkQuote c q) (refuseIf (passes H q) 6)
-    refusal-is l = rw (room H, h .sound, h .late q l, six) (past-fine (checkQuote c q) _)
+    refusal-is l = rw (enough H, h .sound, h .late q l, six) (past-fine (checkQuote c q) _)
 
     next-ready : checkQuote c q ≡ Fine → passes H q ≡ false → Ready (q .«timestamp_ms») (H ++ q ∷ [])
     next-ready f w =
@@ -121,7 +121,7 @@ module _ (c : MicroPriceConfig) (e : valid c ≡ true) where
     answer-is : Ended (r .answer)
     left-is : r .answer ≡ Fine → r .left ≡ held c (H ++ filter (usable c) qs)
     invalid-is : r .answer ≡ Fine → r .invalid ≡ k + count (unusable c) qs
-    within : over (r .left .counts) ≡ false
+    within : overLimit (r .left .counts) ≡ false
 
   -- a stop leaves the memory of the history
   stopped-counted : (t : ℕ) (H qs : List TopOfBook) (k : ℕ) (x : Refusal) → Ready t H → (Refused x ≡ Refused (refusal 2)) ⊎ (Refused x ≡ Refused (refusal 6))
@@ -231,7 +231,7 @@ module _ (c : MicroPriceConfig) (e : valid c ≡ true) where
         record {
           sound = refl;
           late = λ q l. refl;
-          within = ap (λ (m : Memory Previous). over (m .counts)) empty-is ∙ zeros-within 2 (states c);
+          within = ap (λ (m : Memory Previous). overLimit (m .counts)) empty-is ∙ zeros-within 2 (states c);
         }
 
     all : Counted [] qs 0 (recorded c qs 0 (fresh c))
@@ -250,5 +250,5 @@ module _ (c : MicroPriceConfig) (e : valid c ≡ true) where
     new-invalid u = all .invalid-is u ∙ zero-add (count (unusable c) qs)
 
     -- its counts are within their limits
-    pub new-within : over (recorded c qs 0 (fresh c) .left .counts) ≡ false
+    pub new-within : overLimit (recorded c qs 0 (fresh c) .left .counts) ≡ false
     new-within = all .within

@@ -18,7 +18,8 @@ use Rattle.calibrator.specs.Record.{Outcome}
 use Rattle.calibrator.specs.Observe.{observed}
 use Rattle.calibrator.specs.declared.Previous.{Previous}
 use Rattle.recording.specs.Recording.{quoteAt, quotesOf}
-use Rattle.recording.specs.Observe.{isInvalid, isStop, RecordedOutcome, recordedAs, recordedBy, recorded, recordedOf}
+use Rattle.recording.specs.Observe.{isInvalid, isStop, RecordedOutcome, recordedAs, recordedBy, recorded}
+use Rattle.recording.specs.Inner.{recordedOf}
 use Rattle.recording.proofs.Recordings.{quotes-step, quotes-end}
 use Rattle.recording.proofs.Windows.{bit-most}
 
@@ -84,8 +85,8 @@ module _ {c : MicroPriceConfig} {w : List ℕ} {m₀ m : Memory Previous} {k i :
 -- quote i does not stop it
 module _ {c : MicroPriceConfig} {w : List ℕ} {m₀ m : Memory Previous} {k i : ℕ} (runs : Observing c w m₀ m k i) (here : i < length w / 5) where
   -- the invalid quotes are at most as many as the quotes
-  pub observing-room : (a : Check) {n : ℕ} → n ≡ bit (isInvalid a) → k + n ≤ length w / 5
-  observing-room a {n} counted = omega (arith, one-most a n counted, runs .few)
+  pub observing-few : (a : Check) {n : ℕ} → n ≡ bit (isInvalid a) → k + n ≤ length w / 5
+  observing-few a {n} counted = omega (arith, one-most a n counted, runs .few)
 
   pub observing-on : {q : TopOfBook} → q ≡ quoteAt w i → {o : Outcome Previous} → o ≡ observed c m q
       → length (o .left .counts .tables .stay) ≡ length (m .counts .tables .stay)

@@ -1,3 +1,4 @@
 pub mod Recording
 pub mod Window
 pub mod Observe
+pub mod Inner

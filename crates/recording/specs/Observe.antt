@@ -4,7 +4,7 @@ use mathlib.Core.Bool.{Bool, false, not, cond, _&&_, _||_}
 use mathlib.Core.List.{List, [], _∷_}
 use lib.Dec.{eqb}
 use Rattle.basics.specs.Lists.{bit}
-use Rattle.refusals.specs.Refusals.{numberOf, refusal}
+use Rattle.refusals.specs.Refusals.{numberOf}
 use Rattle.refusals.specs.declared.Check.{Check}
 use Rattle.refusals.specs.declared.Check.the-variants.{Fine, Refused}
 use Rattle.config.specs.declared.MicroPriceConfig.{MicroPriceConfig}
@@ -14,7 +14,6 @@ use Rattle.tally.specs.Rules.{Memory}
 use Rattle.calibrator.specs.Record.{Outcome}
 use Rattle.calibrator.specs.Observe.{refuses, observed}
 use Rattle.calibrator.specs.declared.Previous.{Previous}
-use Rattle.recording.specs.Recording.{quotesOf, uneven}
 
 -- 3 and 4, counted as invalid quotes
 abbrev pub isInvalid : Check → Bool
@@ -44,10 +43,6 @@ recordedBy f (q ∷ qs) k m =
 -- the calibrator's quotes
 abbrev pub recorded : MicroPriceConfig → List TopOfBook → ℕ → Memory Previous → RecordedOutcome Previous
 recorded c qs k m = recordedBy (observed c) qs k m
-
--- 7 first, for a recording that is not a multiple of five words
-abbrev pub recordedOf : MicroPriceConfig → List ℕ → Memory Previous → RecordedOutcome Previous
-recordedOf c w m = cond (uneven w) (recordedAs (Refused (refusal 7)) 0 m) (recorded c (quotesOf w) 0 m)
 
 -- a quote that 3 or 4 refuses, and one that they do not
 abbrev pub unusable : MicroPriceConfig → TopOfBook → Bool

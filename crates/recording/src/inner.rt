@@ -16,7 +16,8 @@ ghost use Rattle.basics.specs.Lists.{bit, count};
 ghost use Rattle.calibrator.specs.Record.{came, remains};
 ghost use Rattle.recording.specs.Recording.{quoteAt, quotesOf, sorted};
 ghost use Rattle.recording.specs.Window.{before, partEnds};
-ghost use Rattle.recording.specs.Observe.{isInvalid, isStop, recordedOf, recordedAs};
+ghost use Rattle.recording.specs.Observe.{isInvalid, isStop, recordedAs};
+ghost use Rattle.recording.specs.Inner.{recordedOf};
 
 // ---- the recording
 

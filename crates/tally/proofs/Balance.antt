@@ -12,7 +12,7 @@ use borrow.Author.Tests.{eqb-true}
 use Rattle.basics.specs.Lists.{bit, count, tab, square, sum}
 use Rattle.basics.proofs.Tests.{both, fails, eqb-same, same-test}
 use Rattle.basics.proofs.Lists.{length-tab, getD-tab, tab-ext, tab-getD, flat-row, flat-column, flat-below, getD-square, square-getD, sum-tab-add, sum-tab-zero, sum-tab-one, sum-replicate}
-use Rattle.tally.specs.Entries.{Entry, isZero, cellOf}
+use Rattle.tally.specs.Entries.{Entry, isZero, entryCell}
 use Rattle.tally.specs.Events.{Event, first, skip, pair, Counts, entries, goes, totalAt, isPair, isSkip, isFirst, after, zeros}
 use Rattle.tally.specs.Rules.{Rule, InRange, Lawful, events, AllIn}
 use Rattle.tally.specs.Balance.{Sized, Balanced}
@@ -174,7 +174,7 @@ sum-cells N t (e ∷ F) r =
 
     single : sum (tab (N * N) own) ≡ bit (t e)
     single =
-        sum-tab-one (N * N) own (cellOf N e) (flat-below N (e .from) (e .to) (r .1) N (r .0))
+        sum-tab-one (N * N) own (entryCell N e) (flat-below N (e .from) (e .to) (r .1) N (r .0))
         (λ k b q. ap bit (fails _ (λ h. q (goes-cell N k e (both (goes (k / N) (k % N) e) (t e) h .0)))))
         ∙ rw (flat-row N (e .from) (e .to) (r .1), flat-column N (e .from) (e .to) (r .1), goes-own e)
 

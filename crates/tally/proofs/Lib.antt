@@ -1,3 +1,4 @@
+pub mod Sums
 pub mod Step
 pub mod Touched
 pub mod Balance

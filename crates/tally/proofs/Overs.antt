@@ -10,16 +10,16 @@ use Rattle.basics.specs.Lists.{any}
 use Rattle.basics.proofs.Tests.{neither}
 use Rattle.basics.proofs.Lists.{flat-below}
 use Rattle.basics.proofs.Anys.{any-replicate, any-one, any-two}
-use Rattle.signed.specs.Totals.{addAt}
+use Rattle.tally.specs.Totals.{addAt}
 use Rattle.tally.specs.Entries.{isZero, bump, overCell, overTotal}
 use Rattle.tally.specs.Events.{Event, first, skip, pair, Counts, entered, zeros}
-use Rattle.tally.specs.Fits.{cellsOver, totalsOver}
-use Rattle.tally.specs.Limits.{overCounter, touched, over}
+use Rattle.tally.specs.Inner.{cellsOver, totalsOver}
+use Rattle.tally.specs.Limits.{overCounter, touched, overLimit}
 use Rattle.tally.specs.Rules.{InRange}
 use Rattle.tally.specs.Balance.{Sized}
 use Rattle.tally.proofs.Touched.{zero-neg}
 
-pub zeros-within : (K N : ℕ) → over (zeros K N) ≡ false
+pub zeros-within : (K N : ℕ) → overLimit (zeros K N) ≡ false
 zeros-within K N =
     rw (any-replicate overCounter 0 K refl, any-replicate overCell 0 (N * N) refl, any-replicate overTotal (pos 0) N refl)
 
@@ -31,7 +31,7 @@ pub record Within (c : Counts) : Type 0 where
   pub moved-in : any overCell (c .tables .moved) ≡ false
   pub totals-in : any overTotal (c .tables .totals) ≡ false
 
-pub within-known : (c : Counts) → over c ≡ false → Within c
+pub within-known : (c : Counts) → overLimit c ≡ false → Within c
 within-known c e =
     let t = neither (overCounter (c .pairs) || any overCounter (c .skips) || any overCell (c .tables .stay) || any overCell (c .tables .moved))
     (any overTotal (c .tables .totals)) e in
@@ -54,7 +54,7 @@ moved-alone : (a b t : Bool) → (a || false || false || b || t) ≡ (a || (b ||
 moved-alone true b t = refl
 moved-alone false b t = refl
 
-module _ (K N : ℕ) (mirror : ℕ → ℕ) (below : (i : ℕ) → i < N → mirror i < N) (c : Counts) (z : Sized K N c) (o : over c ≡ false) where
+module _ (K N : ℕ) (mirror : ℕ → ℕ) (below : (i : ℕ) → i < N → mirror i < N) (c : Counts) (z : Sized K N c) (o : overLimit c ≡ false) where
   w : Within c
   w = within-known c o
 
@@ -76,7 +76,7 @@ module _ (K N : ℕ) (mirror : ℕ → ℕ) (below : (i : ℕ) → i < N → mir
         any-two overTotal (pos 0) (c .tables .totals) (w .totals-in) i (mirror i) _ _ (rw (z .totals-cells) hi)
         (rw (z .totals-cells) (below i hi))
 
-    over-pair : (b : Bool) → isZero d ≡ b → over (entered N mirror (pair i j d) c) ≡ touched N mirror (pair i j d) (entered N mirror (pair i j d) c)
+    over-pair : (b : Bool) → isZero d ≡ b → overLimit (entered N mirror (pair i j d) c) ≡ touched N mirror (pair i j d) (entered N mirror (pair i j d) c)
     over-pair true e =
         rw (zero-neg d, e, w .skips-in, w .moved-in)
         (stay-alone (overCounter (c .pairs + 1)) _ _
@@ -86,7 +86,7 @@ module _ (K N : ℕ) (mirror : ℕ → ℕ) (below : (i : ℕ) → i < N → mir
         (moved-alone (overCounter (c .pairs + 1)) _ _
         ∙ (λ u. overCounter (c .pairs + 1) || (cells (c .tables .moved) (z .moved-cells) (w .moved-in) u || sums u)))
 
-  pub over-touched : (e : Event) → InRange K N e → over (entered N mirror e c) ≡ touched N mirror e (entered N mirror e c)
+  pub over-touched : (e : Event) → InRange K N e → overLimit (entered N mirror e c) ≡ touched N mirror e (entered N mirror e c)
   over-touched first h = o
   over-touched (skip k) h =
       rw (w .pairs-in, w .stay-in, w .moved-in, w .totals-in) (skips-alone _ ∙ one-skip k h)

@@ -14,8 +14,8 @@ use borrow.Author.Tests.{eqb-true}
 use Rattle.basics.specs.Lists.{bit, count, greatest, tab, square}
 use Rattle.basics.proofs.Tests.{both, fails, eqb-same}
 use Rattle.basics.proofs.Lists.{greatest-append, count-snoc, sum-snoc, getD-tab, tab-ext, set-tab, flat-row, flat-column, flat-below}
-use Rattle.signed.specs.Totals.{addAt}
-use Rattle.tally.specs.Entries.{Entry, Tables, isZero, bump, bumpIf, cellOf, enter, enterBoth, forth, back}
+use Rattle.tally.specs.Totals.{addAt}
+use Rattle.tally.specs.Entries.{Entry, Tables, isZero, bump, bumpIf, entryCell, enter, enterBoth, forth, back}
 use Rattle.tally.specs.Events.{Event, first, skip, pair, Counts, entered, entries, goes, stayAt, movedAt, totalAt, isPair, isSkip, sizeOf, after}
 use Rattle.tally.specs.Rules.{Rule, InRange, Lawful, step, events, carried, memoryOf}
 
@@ -42,7 +42,7 @@ pub goes-own : (e : Entry) → goes (e .from) (e .to) e ≡ true
 goes-own e = rw (eqb-same (e .from), eqb-same (e .to))
 
 -- an entry goes by its own cell alone
-pub goes-cell : (N k : ℕ) (e : Entry) → goes (k / N) (k % N) e ≡ true → k ≡ cellOf N e
+pub goes-cell : (N k : ℕ) (e : Entry) → goes (k / N) (k % N) e ≡ true → k ≡ entryCell N e
 goes-cell N k e h =
     let b = both (eqb (e .from) (k / N)) (eqb (e .to) (k % N)) h in
     rw (eqb-true (e .from) (k / N) (b .0), eqb-true (e .to) (k % N) (b .1)) (sym (div-add-mod' k N))
@@ -62,28 +62,28 @@ module _ (N : ℕ) (F : List Entry) (e : Entry) (hf : e .from < N) (ht : e .to <
     new-is : (k : ℕ) → new k ≡ old k + bit (goes (k / N) (k % N) e && t e)
     new-is k = omega (arith, count-snoc (λ x. goes (k / N) (k % N) x && t x) F e)
 
-    here : t e ≡ true → new (cellOf N e) ≡ old (cellOf N e) + 1
-    here p = new-is (cellOf N e) ∙ ap (λ (b : Bool). old (cellOf N e) + bit b) hit
+    here : t e ≡ true → new (entryCell N e) ≡ old (entryCell N e) + 1
+    here p = new-is (entryCell N e) ∙ ap (λ (b : Bool). old (entryCell N e) + bit b) hit
       where
-        hit : (goes (cellOf N e / N) (cellOf N e % N) e && t e) ≡ true
+        hit : (goes (entryCell N e / N) (entryCell N e % N) e && t e) ≡ true
         hit = rw (flat-row N (e .from) (e .to) ht, flat-column N (e .from) (e .to) ht, goes-own e) p
 
-    elsewhere : (k : ℕ) → k ≢ cellOf N e → old k ≡ new k
+    elsewhere : (k : ℕ) → k ≢ entryCell N e → old k ≡ new k
     elsewhere k q = sym (new-is k ∙ ap (λ (b : Bool). old k + bit b) miss ∙ add-zero (old k))
       where
         miss : (goes (k / N) (k % N) e && t e) ≡ false
         miss = fails _ (λ h. q (goes-cell N k e (both (goes (k / N) (k % N) e) (t e) h .0)))
 
     pub enter-cell : (b : Bool) → t e ≡ b
-        → bumpIf b (square N (λ i j. s i j + cellAt t F i j)) (cellOf N e) ≡ square N (λ i j. s i j + cellAt t (F ++ e ∷ []) i j)
+        → bumpIf b (square N (λ i j. s i j + cellAt t F i j)) (entryCell N e) ≡ square N (λ i j. s i j + cellAt t (F ++ e ∷ []) i j)
     enter-cell true p =
-        set-tab (N * N) old new (cellOf N e) (getD (tab (N * N) old) (cellOf N e) 0 + 1) in-square there (λ k b q. elsewhere k q)
+        set-tab (N * N) old new (entryCell N e) (getD (tab (N * N) old) (entryCell N e) 0 + 1) in-square there (λ k b q. elsewhere k q)
       where
-        in-square : cellOf N e < N * N
+        in-square : entryCell N e < N * N
         in-square = flat-below N (e .from) (e .to) ht N hf
 
-        there : getD (tab (N * N) old) (cellOf N e) 0 + 1 ≡ new (cellOf N e)
-        there = ap (λ (n : ℕ). n + 1) (getD-tab (N * N) old (cellOf N e) 0 in-square) ∙ sym (here p)
+        there : getD (tab (N * N) old) (entryCell N e) 0 + 1 ≡ new (entryCell N e)
+        there = ap (λ (n : ℕ). n + 1) (getD-tab (N * N) old (entryCell N e) 0 in-square) ∙ sym (here p)
     enter-cell false p =
         tab-ext (N * N) old new
         (λ k b. sym (new-is k ∙ ap (λ (x : Bool). old k + bit x) (none k) ∙ add-zero (old k)))

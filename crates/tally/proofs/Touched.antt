@@ -1,4 +1,4 @@
--- What a pair does to cells and totals, at one place or at two, and the room that it leaves.
+-- What a pair does to cells and totals, at one place or at two, and whether they stay within their limits.
 use Prim.Native.Nat.{ℕ, zero, suc, _+_, _-_, _*_, _^_, _≤_, _<_}
 use mathlib.Core.Path.{_≡_, refl, sym, ap, _∙_, subst}
 use mathlib.Core.Bool.{Bool, true, false, not, cond, _&&_, _||_, or-self, Bool·not-not}
@@ -14,10 +14,10 @@ use borrow.Author.Tests.{le-ltb, lt-ltb, ltb-true, ltb-false, not-false, leb-tru
 use Rattle.basics.proofs.Tests.{zero-not-one, neither, fails, le-or-lt}
 use Rattle.basics.proofs.Lists.{flat-below}
 use Rattle.basics.proofs.Stores.{at-same, at-first, at-second}
-use Rattle.signed.specs.Totals.{cellLimit, change, within, addAt}
-use Rattle.signed.proofs.Sums.{within-size, size-part, size-neg, distance-down, distance-up}
-use Rattle.tally.specs.Entries.{Tables, tables, isZero, bump, bumpIf, enterBoth, forthOf, backOf, overCell, overTotal, touchedOver}
-use Rattle.tally.specs.Fits.{Placed, cellsOver, totalsOver}
+use Rattle.tally.specs.Totals.{cellLimit, change, within, addAt}
+use Rattle.tally.proofs.Sums.{within-size, size-part, size-neg, distance-down, distance-up}
+use Rattle.tally.specs.Entries.{Tables, tables, isZero, bump, bumpIf, enterBoth, overCell, overTotal, touchedOver}
+use Rattle.tally.specs.Inner.{forthOf, backOf, Placed, cellsOver, totalsOver}
 use Rattle.tally.specs.declared.PairEntry.{PairEntry}
 
 -- none over is each within
@@ -26,15 +26,15 @@ not-or true b = refl
 not-or false b = refl
 
 -- x + k is not over m + k exactly if x is at most m
-room : (x k m : ℕ) → not (ltb (m + k) (x + k)) ≡ leb x m
-room x k m = go (leb x m) refl
+more-within : (x k m : ℕ) → not (ltb (m + k) (x + k)) ≡ leb x m
+more-within x k m = go (leb x m) refl
   where
     go : (t : Bool) → leb x m ≡ t → not (ltb (m + k) (x + k)) ≡ t
     go true e = ap not (le-ltb (m + k) (x + k) (omega (arith, leb-true x m e)))
     go false e = ap not (lt-ltb (m + k) (x + k) (omega (arith, leb-false x m e)))
 
-pub room-one : (x m : ℕ) → not (ltb m (x + 1)) ≡ ltb x m
-room-one x m = go (ltb x m) refl
+pub one-more-within : (x m : ℕ) → not (ltb m (x + 1)) ≡ ltb x m
+one-more-within x m = go (ltb x m) refl
   where
     go : (t : Bool) → ltb x m ≡ t → not (ltb m (x + 1)) ≡ t
     go true e = ap not (le-ltb m (x + 1) (omega (arith, ltb-true x m e)))
@@ -44,7 +44,7 @@ module _ (l : List ℕ) where
   pub cells-same : (a : ℕ) → a < length l → leb (getD l a 0) 9007199254740990 ≡ not (cellsOver l a a)
   cells-same a h =
       let e : getD (bump (bump l a) a) a 0 ≡ getD l a 0 + 2 = at-same 0 (λ x. x + 1) (λ x. x + 1) l a h ∙ omega arith in
-      rw (e, or-self) (sym (room (getD l a 0) 2 9007199254740990))
+      rw (e, or-self) (sym (more-within (getD l a 0) 2 9007199254740990))
 
   pub cells-other : (a b : ℕ) → a < length l → b < length l → a ≢ b
       → (ltb (getD l a 0) 9007199254740992 && ltb (getD l b 0) 9007199254740992) ≡ not (cellsOver l a b)
@@ -53,8 +53,8 @@ module _ (l : List ℕ) where
         at-first 0 (λ x. x + 1) (λ x. x + 1) l a b h n,
         at-second 0 (λ x. x + 1) (λ x. x + 1) l a b k (λ e. n (sym e)),
         not-or,
-        room-one (getD l a 0) 9007199254740992,
-        room-one (getD l b 0) 9007199254740992,
+        one-more-within (getD l a 0) 9007199254740992,
+        one-more-within (getD l b 0) 9007199254740992,
       )
 
   pub cells-flat : (a b k : ℕ) → a < length l → b < length l → (a ≡ b → k ≡ 1) → (a ≢ b → k ≡ 0)

@@ -1,12 +1,12 @@
 -- Entering a pair and its mirror into the three tables: document 01, "New, and one quote".
-use Prim.Native.Nat.{ℕ, zero, suc, _+_, _*_}
+use Prim.Native.Nat.{ℕ, zero, suc, _+_}
 use mathlib.Core.Bool.{Bool, true, false, not, cond, _||_}
 use mathlib.Core.List.{List}
 use lib.Dec.{ltb}
 use lib.IntN.{ℤ, pos, negsuc, negℤ}
 use lib.ListN.{getD, set}
-use Rattle.signed.specs.Totals.{cellLimit, change, within, addAt}
-use Rattle.tally.specs.declared.PairEntry.{PairEntry}
+use Rattle.basics.specs.Lists.{cellIndex}
+use Rattle.tally.specs.Totals.{cellLimit, change, within, addAt}
 
 -- from a state to a state with a change of the mid
 pub record Entry : Type 0 where
@@ -36,16 +36,16 @@ abbrev pub bumpIf : Bool → List ℕ → ℕ → List ℕ
 bumpIf true l k = bump l k
 bumpIf false l k = l
 
--- cell (i, j) stands at i × N + j
-abbrev pub cellOf : ℕ → Entry → ℕ
-cellOf N e = e .from * N + e .to
+-- the cell that an entry counts into
+abbrev pub entryCell : ℕ → Entry → ℕ
+entryCell N e = cellIndex N (e .from) (e .to)
 
 -- an entry counts into stay if the change is 0 and into moved if not, and its change into the total of its first state
 abbrev pub enter : ℕ → Entry → Tables → Tables
 enter N e t =
     record {
-      stay = bumpIf (isZero (e .change)) (t .stay) (cellOf N e);
-      moved = bumpIf (not (isZero (e .change))) (t .moved) (cellOf N e);
+      stay = bumpIf (isZero (e .change)) (t .stay) (entryCell N e);
+      moved = bumpIf (not (isZero (e .change))) (t .moved) (entryCell N e);
       totals = addAt (t .totals) (e .from) (e .change);
     }
 
@@ -60,13 +60,6 @@ forth i j d = record { from = i; to = j; change = d }
 abbrev pub back : (ℕ → ℕ) → ℕ → ℕ → ℤ → Entry
 back mirror i j d = record { from = mirror i; to = mirror j; change = negℤ d }
 
--- the two entries of a pair as code holds it
-abbrev pub forthOf : PairEntry → Entry
-forthOf e = forth (e .from) (e .to) (change (e .«mid_from») (e .«mid_to»))
-
-abbrev pub backOf : PairEntry → Entry
-backOf e = record { from = e .«mirror_from»; to = e .«mirror_to»; change = negℤ (change (e .«mid_from») (e .«mid_to»)) }
-
 -- a cell over 2^53, a total outside −2^53 to 2^53
 abbrev pub overCell : ℕ → Bool
 overCell n = ltb cellLimit n
@@ -76,7 +69,7 @@ overTotal z = not (within z)
 
 -- the cell that an entry touched, and its total
 abbrev pub cellAfter : ℕ → Entry → Tables → ℕ
-cellAfter N e t = getD (cond (isZero (e .change)) (t .stay) (t .moved)) (cellOf N e) 0
+cellAfter N e t = getD (cond (isZero (e .change)) (t .stay) (t .moved)) (entryCell N e) 0
 
 abbrev pub totalAfter : Entry → Tables → ℤ
 totalAfter e t = getD (t .totals) (e .from) (pos 0)

@@ -5,7 +5,7 @@ use mathlib.Core.List.{List, [], _∷_}
 use lib.Dec.{eqb}
 use lib.IntN.{ℤ, pos, natAbs, _+ℤ_}
 use lib.ListN.{getD, replicate}
-use Rattle.basics.specs.Lists.{count, sumOf, greatest, tab, square}
+use Rattle.basics.specs.Lists.{count, sumOf, greatest, tab, square, cellAt}
 use Rattle.tally.specs.Entries.{Entry, Tables, isZero, bump, enterBoth, forth, back}
 
 -- What a quote makes with the one before it: nothing, where it is the first; a skip of a kind, by number; or a pair from state to state with its change.
@@ -89,8 +89,8 @@ after K N mirror c es =
       largest = max (c .largest) (greatest sizeOf es);
       tables =
           record {
-            stay = square N (λ i j. getD (c .tables .stay) (i * N + j) 0 + stayAt (entries mirror es) i j);
-            moved = square N (λ i j. getD (c .tables .moved) (i * N + j) 0 + movedAt (entries mirror es) i j);
+            stay = square N (λ i j. cellAt N (c .tables .stay) i j + stayAt (entries mirror es) i j);
+            moved = square N (λ i j. cellAt N (c .tables .moved) i j + movedAt (entries mirror es) i j);
             totals = tab N (λ i. getD (c .tables .totals) i (pos 0) +ℤ totalAt (entries mirror es) i);
           };
     }

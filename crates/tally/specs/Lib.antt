@@ -1,6 +1,7 @@
+pub mod Totals
 pub mod Entries
 pub mod Events
 pub mod Limits
-pub mod Fits
 pub mod Rules
 pub mod Balance
+pub mod Inner

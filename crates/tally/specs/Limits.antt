@@ -22,8 +22,8 @@ touched N mirror (pair i j d) c =
     overCounter (c .pairs) || touchedOver N (forth i j d) (back mirror i j d) (c .tables)
 
 -- something is over its limit
-abbrev pub over : Counts → Bool
-over c =
+abbrev pub overLimit : Counts → Bool
+overLimit c =
     overCounter (c .pairs)
     || any overCounter (c .skips)
     || any overCell (c .tables .stay)

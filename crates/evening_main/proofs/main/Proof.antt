@@ -1,5 +1,5 @@
--- `evening_main::main` promises no value: what is proved is that it ends and stays within its arrays. `read_input` answers no more bytes than there is room for
--- (`bytes-most`), so that many can be taken from the front and lent to `answer`.
+-- `evening_main::main` promises no value: what is proved is that it ends and stays within its arrays. `read_input` answers no more bytes than there is buffer
+-- for (`bytes-most`), so that many can be taken from the front and lent to `answer`.
 use mathlib.Core.Path.{sym}
 use native.Mathlib.Omega.{arith}
 use lib.Seq.{length-take-le}
@@ -8,8 +8,8 @@ use borrow.Author.Needs.{needs}
 use Rattle.evening_main.proofs.main.Statement.{statement}
 use Rattle.evening_main.proofs.main.Tie as tie
 
-array-share-prefix-room : tie.Need-array-share-prefix-room
-array-share-prefix-room c =
+array-share-prefix-buffer : tie.Need-array-share-prefix-buffer
+array-share-prefix-buffer c =
     let at-read-input : tie.After-read-input = search in
     omega (arith, bytes-most _ (at-read-input .read-input .ensures) (c .before .found .given .1))
 
@@ -26,7 +26,7 @@ main-spec =
     (λ c. search needs)
     (λ c κs. search needs)
     (λ c. search needs)
-    array-share-prefix-room
+    array-share-prefix-buffer
     slice-aggregate-answer
     (λ c κs. search needs)
     (λ c. search needs)

@@ -1,6 +1,6 @@
--- `evening_main::read_input` meets its contract. Invariant: `at` is within the room, and the room is as long as it was. The measure is the room behind `at`: a
--- round that goes on has read a byte or more, and no more than there is room for (`bytes-left`). The ways out: a failed read, the end of the input, a full
--- room.
+-- `evening_main::read_input` meets its contract. Invariant: `at` is within the buffer, and the buffer is as long as it was. The measure is what is left of the
+-- buffer behind `at`: a round that goes on has read a byte or more, and no more than is left of the buffer (`bytes-left`). The ways out: a failed read, the end
+-- of the input, a full buffer.
 use Prim.Native.Nat.{_-_, _≤_}
 use mathlib.Core.Path.{_≡_}
 use native.Mathlib.Omega.{arith}
@@ -11,26 +11,26 @@ use Rattle.evening_main.proofs.read_input.Statement.{statement}
 use Rattle.evening_main.proofs.read_input.Tie as tie
 
 abbrev Inv-loop : tie.InvT-loop
-Inv-loop room₀ at₀ room at = (at ≤ length room) × (length room ≡ length room₀)
+Inv-loop buffer₀ at₀ buffer at = (at ≤ length buffer) × (length buffer ≡ length buffer₀)
 
 abbrev μ-loop : tie.MeasureT-loop
-μ-loop room₀ at₀ room at = length room - at
+μ-loop buffer₀ at₀ buffer at = length buffer - at
 
 add-at : tie.Need-add-at Inv-loop μ-loop
 add-at c =
     let at-read-some : tie.After-read-some Inv-loop μ-loop = search in
     let at-loop : tie.At-loop Inv-loop μ-loop = search in
     let l = at-loop .loop in
-    omega (arith, bytes-left (l .room) (l .at) (l .inv .0) (at-read-some .read-some .ensures) (c .before .before .more .given .1))
+    omega (arith, bytes-left (l .buffer) (l .at) (l .inv .0) (at-read-some .read-some .ensures) (c .before .before .more .given .1))
 
 loop-again : tie.Need-loop-again Inv-loop μ-loop
 loop-again c =
-    let at-room : tie.After-room Inv-loop μ-loop = search in
+    let at-buffer : tie.After-buffer Inv-loop μ-loop = search in
     let at-read-some : tie.After-read-some Inv-loop μ-loop = search in
     let at-loop : tie.At-loop Inv-loop μ-loop = search in
     let l = at-loop .loop in
-    let w = bytes-left (l .room) (l .at) (l .inv .0) (at-read-some .read-some .ensures) (c .before .before .more .given .1) in
-    (omega (arith, at-room .room .given), omega (arith, at-room .room .given))
+    let w = bytes-left (l .buffer) (l .at) (l .inv .0) (at-read-some .read-some .ensures) (c .before .before .more .given .1) in
+    (omega (arith, at-buffer .buffer .given), omega (arith, at-buffer .buffer .given))
 
 pub read-input-spec : {M : Type 1} → statement M
 read-input-spec =

@@ -5,7 +5,7 @@ use mathlib.Core.Path.{ap, _∙_}
 use native.Mathlib.Omega.{arith}
 use borrow.Author.Needs.{needs}
 use Rattle.refusals.specs.Refusals.{firstFrom}
-use Rattle.config.specs.Known.{Valid}
+use Rattle.config.specs.Inner.{Valid}
 use Rattle.model_check.specs.Check.{checkRow}
 use Rattle.model_check.proofs.Judged.{config-bad, config-good, length-bad, length-good, next-judges}
 use Rattle.model_check.proofs.check_model.Statement.{statement}
@@ -14,7 +14,7 @@ use Rattle.model_check.proofs.check_model.Tie as tie
 returns : tie.Need-returns
 returns c =
     let a = c .before .before .before .args in
-    config-bad (a .config) (c .before .is-valid .ensures) (a .table .now) _ (c .if1 .taken)
+    config-bad (a .config) (c .before .is-valid .ensures) (a .model .now) _ (c .if1 .taken)
 
 known : (c : tie.Else1) → Valid (c .before .before .before .args .config)
 known c = config-good (c .before .before .before .args .config) (c .before .is-valid .ensures) (c .if1 .left)
@@ -23,14 +23,14 @@ returns-2 : tie.Need-returns-2
 returns-2 c =
     let at-else1 : tie.Else1 = search in
     let a = at-else1 .before .before .before .args in
-    length-bad (a .config) (a .table .now) _ (at-else1 .before .is-valid .ensures) (at-else1 .if1 .left) (c .before .state-count .ensures) (c .if2 .taken)
+    length-bad (a .config) (a .model .now) _ (at-else1 .before .is-valid .ensures) (at-else1 .if1 .left) (c .before .state-count .ensures) (c .if2 .taken)
 
 check-rows-requires : tie.Need-check-rows-requires
 check-rows-requires c κs =
     let at-else1 : tie.Else1 = search in
     let a = at-else1 .before .before .before .args in
     let count = c .before .state-count .ensures in
-    (known at-else1, length-good (a .config) (a .table .now) count (c .if2 .left), count)
+    (known at-else1, length-good (a .config) (a .model .now) count (c .if2 .left), count)
 
 returns-3 : tie.Need-returns-3
 returns-3 c =
@@ -38,8 +38,8 @@ returns-3 c =
     let a = at-else1 .before .before .before .args in
     let count = c .before .before .state-count .ensures in
     c .check-rows .ensures
-    ∙ ap (firstFrom (checkRow (a .config) (a .table .now)) 0) count
-    ∙ next-judges (a .config) (a .table .now) _ (at-else1 .before .is-valid .ensures) (at-else1 .if1 .left) count (c .before .if2 .left)
+    ∙ ap (firstFrom (checkRow (a .config) (a .model .now)) 0) count
+    ∙ next-judges (a .config) (a .model .now) _ (at-else1 .before .is-valid .ensures) (at-else1 .if1 .left) count (c .before .if2 .left)
 
 pub check-model-spec : {M : Type 1} → statement M
 check-model-spec =

@@ -3,8 +3,8 @@
 -- addition (`totals-first`, `totals-second`).
 use lib.ListN.{length-set}
 use native.Mathlib.Omega.{arith}
-use Rattle.signed.specs.Totals.{change}
-use Rattle.signed.proofs.Sums.{change-neg, change-size}
+use Rattle.tally.specs.Totals.{change}
+use Rattle.tally.proofs.Sums.{change-neg, change-size}
 use Rattle.tally.proofs.Touched.{totals-first, totals-second}
 use borrow.Author.Needs.{needs}
 use Rattle.tally.proofs.add_totals.Statement.{statement}

@@ -1,8 +1,9 @@
--- `tally::cell` meets its contract: a cell's number in a flat table. With i and j below n ≤ 256 the product (`fits-mul`) and the sum (`mul-le-mul`) fit a word.
-use native.Mathlib.Omega.{arith}
+-- `tally::cell` meets its contract: with i and j below n the place i × n + j is below n × n (`flat-below`). With n at most 256 nothing overflows.
+use mathlib.Core.Path.{refl}
 use native.Mathlib.Nat.{mul-le-mul}
+use native.Mathlib.Omega.{arith}
+use Rattle.basics.proofs.Lists.{flat-below}
 use Rattle.basics.proofs.Tests.{fits-mul}
-use borrow.Author.Needs.{needs}
 use Rattle.tally.proofs.cell.Statement.{statement}
 use Rattle.tally.proofs.cell.Tie as tie
 
@@ -11,9 +12,11 @@ mul-result c = fits-mul 256 256 (omega arith) (omega arith) tt
 
 add-result : tie.Need-add-result
 add-result c =
-    let a = c .args in
-    let m = mul-le-mul {n₁ = a .i} {m₁ = a .n} {n₂ = 256} {m₂ = 256} (omega arith) (omega arith) in
-    omega arith
+    omega
+    (arith, flat-below (c .args .n) (c .args .i) (c .args .j) (c .pre .2) (c .args .n) (c .pre .1), mul-le-mul (c .pre .0) (c .pre .0))
+
+returns : tie.Need-returns
+returns c = (refl, flat-below (c .args .n) (c .args .i) (c .args .j) (c .pre .2) (c .args .n) (c .pre .1))
 
 pub cell-spec : {M : Type 1} → statement M
-cell-spec = tie.close (tie.spec mul-result add-result (λ c. search needs))
+cell-spec = tie.close (tie.spec mul-result add-result returns)

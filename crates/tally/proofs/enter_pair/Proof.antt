@@ -20,7 +20,7 @@ add-totals-requires c κs =
       p .0 .mirror-from-below,
       p .0 .mid-from-most,
       p .0 .mid-to-most,
-      totals-clear (a .n) (a .e) _ _ (at-cell .cell .ensures) (at-cell2 .cell2 .ensures) (a .stay .now) (a .moved .now) (a .totals .now) (p .1),
+      totals-clear (a .n) (a .e) _ _ (at-cell .cell .ensures .0) (at-cell2 .cell2 .ensures .0) (a .stay .now) (a .moved .now) (a .move-half-ticks .now) (p .1),
     )
 
 add-cells-requires : tie.Need-add-cells-requires
@@ -30,7 +30,8 @@ add-cells-requires c κs =
     let at-start : tie.Start = search in
     let a = at-start .args in
     let p = at-start .pre in
-    cells-clear (a .n) (a .e) _ _ (at-cell .cell .ensures) (at-cell2 .cell2 .ensures) (a .stay .now) (a .moved .now) (a .totals .now) (p .1) (p .0)
+    cells-clear (a .n) (a .e) _ _ (at-cell .cell .ensures .0) (at-cell2 .cell2 .ensures .0) (a .stay .now) (a .moved .now) (a .move-half-ticks .now) (p .1)
+    (p .0)
     true (zero-same _ _ (c .before .if1 .taken)) (p .0 .stay-cells)
 
 add-cells-requires-2 : tie.Need-add-cells-requires-2
@@ -40,7 +41,8 @@ add-cells-requires-2 c κs =
     let at-start : tie.Start = search in
     let a = at-start .args in
     let p = at-start .pre in
-    cells-clear (a .n) (a .e) _ _ (at-cell .cell .ensures) (at-cell2 .cell2 .ensures) (a .stay .now) (a .moved .now) (a .totals .now) (p .1) (p .0)
+    cells-clear (a .n) (a .e) _ _ (at-cell .cell .ensures .0) (at-cell2 .cell2 .ensures .0) (a .stay .now) (a .moved .now) (a .move-half-ticks .now) (p .1)
+    (p .0)
     false (zero-other _ _ (c .before .if1 .left)) (p .0 .moved-cells)
 
 returns : tie.Need-returns
@@ -51,7 +53,7 @@ returns c =
     let at-cell : tie.After-cell = search in
     let at-start : tie.Start = search in
     let a = at-start .args in
-    pair-entered (a .n) (a .e) _ _ (at-cell .cell .ensures) (at-cell2 .cell2 .ensures) (a .stay .now) (a .moved .now) (a .totals .now)
+    pair-entered (a .n) (a .e) _ _ (at-cell .cell .ensures .0) (at-cell2 .cell2 .ensures .0) (a .stay .now) (a .moved .now) (a .move-half-ticks .now)
     true (zero-same _ _ (at-then1 .if1 .taken)) _ _ _ (c .before .before .add-cells .ensures) refl (at-add-totals .add-totals .ensures)
 
 returns-2 : tie.Need-returns-2
@@ -62,7 +64,7 @@ returns-2 c =
     let at-cell : tie.After-cell = search in
     let at-start : tie.Start = search in
     let a = at-start .args in
-    pair-entered (a .n) (a .e) _ _ (at-cell .cell .ensures) (at-cell2 .cell2 .ensures) (a .stay .now) (a .moved .now) (a .totals .now)
+    pair-entered (a .n) (a .e) _ _ (at-cell .cell .ensures .0) (at-cell2 .cell2 .ensures .0) (a .stay .now) (a .moved .now) (a .move-half-ticks .now)
     false (zero-other _ _ (at-else1 .if1 .left)) _ _ _ refl (c .before .before .add-cells2 .ensures) (at-add-totals .add-totals .ensures)
 
 pub enter-pair-spec : {M : Type 1} → statement M

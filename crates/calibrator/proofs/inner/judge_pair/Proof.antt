@@ -3,7 +3,8 @@
 use mathlib.Core.Path.{_≡_}
 use borrow.Author.Tests.{lt-ltb, le-ltb}
 use Rattle.refusals.specs.Refusals.{refuseIf}
-use Rattle.calibrator.specs.Observe.{earlier, judgePair}
+use Rattle.calibrator.specs.Observe.{earlier}
+use Rattle.calibrator.specs.Inner.{judgePair}
 use Rattle.calibrator.specs.declared.Previous.the-variants.{Quoted}
 use Rattle.calibrator.proofs.Ways.{times-judged}
 use borrow.Author.Needs.{needs}
@@ -25,14 +26,14 @@ returns-2 c =
 
 -- both quotes are fine, up to the test of the times
 judged : (c : tie.After-enum-told3) → let at-start : tie.Start = search in let a = at-start .args in
-    judgePair (a .c) (a .last) (a .quote) ≡ refuseIf (earlier (Quoted (a .last)) (a .quote)) 5
+    judgePair (a .config) (a .last) (a .quote) ≡ refuseIf (earlier (Quoted (a .last)) (a .quote)) 5
 judged c =
     let at-check-quote2 : tie.After-check-quote2 = search in
     let at-enum-told : tie.After-enum-told = search in
     let at-check-quote : tie.After-check-quote = search in
     let at-start : tie.Start = search in
     let a = at-start .args in
-    times-judged (a .c) (a .last) (a .quote) _ _ (at-check-quote .check-quote .ensures) (at-enum-told .enum-told .given .1)
+    times-judged (a .config) (a .last) (a .quote) _ _ (at-check-quote .check-quote .ensures) (at-enum-told .enum-told .given .1)
     (at-check-quote2 .check-quote2 .ensures) (c .enum-told3 .given .1)
 
 returns-3 : tie.Need-returns-3

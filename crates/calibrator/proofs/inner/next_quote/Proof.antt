@@ -14,7 +14,7 @@ count-pair-requires c κs =
     let at-start : tie.Start = search in
     let a = at-start .args in
     let p = at-start .pre in
-    (p .0, counted-known (a .c) (a .last) (a .quote) (p .0) (p .1) (p .2) _ (sym (at-neighbours .neighbours .ensures) ∙ at-found2 .found2 .given .1), p .4)
+    (p .0, counted-known (a .config) (a .last) (a .quote) (p .0) (p .1) (p .2) _ (sym (at-neighbours .neighbours .ensures) ∙ at-found2 .found2 .given .1), p .4)
 
 returns : tie.Need-returns
 returns c =
@@ -22,7 +22,7 @@ returns c =
     let at-start : tie.Start = search in
     let a = at-start .args in
     c .skip-pair .ensures _ _ _
-    ∙ way-found (a .c) (a .rec .previous) (a .rec .counters) (a .stay .now) (a .moved .now) (a .totals .now) (a .quote) (a .last) _ _
+    ∙ way-found (a .config) (a .rec .previous) (a .rec .counters) (a .stay .now) (a .moved .now) (a .move-half-ticks .now) (a .quote) (a .last) _ _
     (at-neighbours .neighbours .ensures) (c .before .before .found .given .1)
 
 returns-2 : tie.Need-returns-2
@@ -33,7 +33,7 @@ returns-2 c =
     let at-start : tie.Start = search in
     let a = at-start .args in
     at-count-pair .count-pair .ensures
-    ∙ way-found (a .c) (a .rec .previous) (a .rec .counters) (a .stay .now) (a .moved .now) (a .totals .now) (a .quote) (a .last) _ _
+    ∙ way-found (a .config) (a .rec .previous) (a .rec .counters) (a .stay .now) (a .moved .now) (a .move-half-ticks .now) (a .quote) (a .last) _ _
     (at-neighbours .neighbours .ensures) (at-found2 .found2 .given .1)
 
 pub next-quote-spec : {M : Type 1} → statement M

@@ -21,7 +21,8 @@ returns c =
     let at-start : tie.Start = search in
     let a = at-start .args in
     λ s m t.
-    way-skipped (a .c) (a .rec .previous) (a .rec .counters) s m t (a .quote) (a .kind) (at-skip-count .skip-count .result) (at-skip-count .skip-count .ensures)
+    way-skipped (a .config) (a .rec .previous) (a .rec .counters) s m t (a .quote) (a .kind) (at-skip-count .skip-count .result)
+    (at-skip-count .skip-count .ensures)
     (at-may-count .may-count .result) (at-may-count .may-count .ensures) (at-then1 .if1 .taken) (c .before .with-skip .result) (c .before .with-skip .ensures)
     (c .accept .result) (c .accept .ensures)
 
@@ -32,7 +33,7 @@ returns-2 c =
     let at-start : tie.Start = search in
     let a = at-start .args in
     λ s m t.
-    way-skip-limit (a .c) (a .rec .previous) (a .rec .counters) s m t (a .quote) (a .kind) (at-skip-count .skip-count .result)
+    way-skip-limit (a .config) (a .rec .previous) (a .rec .counters) s m t (a .quote) (a .kind) (at-skip-count .skip-count .result)
     (at-skip-count .skip-count .ensures) (at-may-count .may-count .result) (at-may-count .may-count .ensures) (c .before .if1 .left) (c .limit .result)
     (c .limit .ensures)
 

@@ -1,9 +1,9 @@
 -- `evening::inner::check_evening` meets its contract: the window's refusals, those of the configuration and the tables, and 7 for scratch or model are judged
 -- in the definition's order, so each way out is the definition with the tests before it fine. The configuration is valid where the tables have room
--- (`room-known`), which `state_count` asks; the last two ways out are the two values of the last test (`last-judged`).
+-- (`tables-known`), which `state_count` asks; the last two ways out are the two values of the last test (`last-judged`).
 use mathlib.Core.Path.{_≡_, sym, ap, _∙_}
 use Rattle.refusals.specs.Refusals.{refuseIf}
-use Rattle.calibrator.proofs.Room.{room-known}
+use Rattle.calibrator.proofs.Lengths.{tables-known}
 use Rattle.evening.specs.Evening.{checkLengths}
 use Rattle.evening.proofs.Evenings.{last-judged}
 use borrow.Author.Needs.{needs}
@@ -19,7 +19,7 @@ returns-2 c =
     rw (
       ← at-check-window .check-window .ensures,
       c .before .before .before .enum-told .given .1,
-      ← c .before .before .check-room .ensures,
+      ← c .before .before .check-table-lengths .ensures,
       c .enum-told4 .given .1,
     )
 
@@ -27,28 +27,30 @@ state-count-requires : tie.Need-state-count-requires
 state-count-requires c κs =
     let at-start : tie.Start = search in
     let a = at-start .args in
-    room-known (a .c) (a .stay) (a .moved) (a .totals) (sym (c .before .before .check-room .ensures) ∙ c .enum-told3 .given .1) .0
+    tables-known (a .config) (a .stay) (a .moved) (a .move-half-ticks) (sym (c .before .before .check-table-lengths .ensures) ∙ c .enum-told3 .given .1) .0
 
-wrong-room-requires : tie.Need-wrong-room-requires
-wrong-room-requires c κs =
+wrong-fit-lengths-requires : tie.Need-wrong-fit-lengths-requires
+wrong-fit-lengths-requires c κs =
     let at-start : tie.Start = search in
     let a = at-start .args in
     rw (c .state-count .ensures)
-    (room-known (a .c) (a .stay) (a .moved) (a .totals)
-    (sym (c .before .before .before .check-room .ensures) ∙ c .before .enum-told3 .given .1) .0 .states-most)
+    (tables-known (a .config) (a .stay) (a .moved) (a .move-half-ticks)
+    (sym (c .before .before .before .check-table-lengths .ensures) ∙ c .before .enum-told3 .given .1) .0 .states-most)
 
 -- the answer is that of the last test
-judged : (c : tie.After-wrong-room) → let at-start : tie.Start = search in let a = at-start .args in
-    refuseIf (c .wrong-room .result) 7 ≡ checkLengths (a .c) (a .w .now) (a .start) (a .end) (a .stay) (a .moved) (a .totals) (a .scratch) (a .model)
+judged : (c : tie.After-wrong-fit-lengths) → let at-start : tie.Start = search in let a = at-start .args in
+    refuseIf (c .wrong-fit-lengths .result) 7 ≡ checkLengths (a .config) (a .w .now) (a .start) (a .end) (a .stay) (a .moved) (a .move-half-ticks) (a .scratch)
+    (a .model)
 judged c =
-    let at-check-room : tie.After-check-room = search in
+    let at-check-table-lengths : tie.After-check-table-lengths = search in
     let at-enum-told : tie.After-enum-told = search in
     let at-check-window : tie.After-check-window = search in
     let at-start : tie.Start = search in
     let a = at-start .args in
-    last-judged (a .c) (a .w .now) (a .start) (a .end) (a .stay) (a .moved) (a .totals) (a .scratch) (a .model)
+    last-judged (a .config) (a .w .now) (a .start) (a .end) (a .stay) (a .moved) (a .move-half-ticks) (a .scratch) (a .model)
     (sym (at-check-window .check-window .ensures) ∙ at-enum-told .enum-told .given .1)
-    (sym (at-check-room .check-room .ensures) ∙ c .before .before .enum-told3 .given .1) (c .before .state-count .ensures) (c .wrong-room .ensures)
+    (sym (at-check-table-lengths .check-table-lengths .ensures) ∙ c .before .before .enum-told3 .given .1) (c .before .state-count .ensures)
+    (c .wrong-fit-lengths .ensures)
 
 returns-3 : tie.Need-returns-3
 returns-3 c = ap (λ b. refuseIf b 7) (sym (c .if1 .taken)) ∙ judged (c .before)
@@ -69,6 +71,6 @@ check-evening-spec =
     (λ c. search needs)
     returns-2
     state-count-requires
-    wrong-room-requires
+    wrong-fit-lengths-requires
     returns-3
     returns-4)

@@ -2,7 +2,7 @@
 -- calibrator, as the tables still have the lengths for which there was room (`counted-refused`); or all quotes were counted, and the counts are fitted
 -- (`counted-fitted`). No loop.
 use mathlib.Core.Path.{_∙_}
-use Rattle.calibrator.specs.Observe.{checkRoom}
+use Rattle.calibrator.specs.Observe.{checkTableLengths}
 use Rattle.evening.proofs.Counting.{counted-fitted, counted-refused}
 use borrow.Author.Needs.{needs}
 use Rattle.evening.proofs.inner.count_and_fit.Statement.{statement}
@@ -22,7 +22,7 @@ returns c =
     let at-slice-known : tie.After-slice-known = search in
     let at-start : tie.Start = search in
     let a = at-start .args in
-    let room = (λ j. checkRoom (a .config) (at-stay .stay .given j) (at-moved .moved .given j) (at-move-half-ticks .move-half-ticks .given j))
+    let room = (λ j. checkTableLengths (a .config) (at-stay .stay .given j) (at-moved .moved .given j) (at-move-half-ticks .move-half-ticks .given j))
     ∙ at-start .pre .0 in
     counted-refused (a .config) _ (a .model .now) (a .scratch .now) _ _ _ _ _ (at-count-part .count-part .ensures) (at-observed .observed .given .1)
     (at-new .new .ensures) room

@@ -5,7 +5,7 @@ use native.Mathlib.Omega.{arith}
 use borrow.Author.Tests.{eq-eqb, ne-eqb}
 use lib.Dec.{eqb}
 use lib.ListN.{getD}
-use Rattle.marking.proofs.Below.{Searching, searching-none, searching-more, searching-found, searching-all}
+use Rattle.fit_marking.proofs.Below.{Searching, searching-none, searching-more, searching-found, searching-all}
 use Rattle.fit.proofs.inner.has_calibrated.Statement.{statement}
 use Rattle.fit.proofs.inner.has_calibrated.Tie as tie
 

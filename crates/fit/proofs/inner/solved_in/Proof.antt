@@ -7,14 +7,14 @@ use native.Mathlib.Omega.{arith}
 use lib.ListN.{length}
 use lib.Ieee.{Float}
 use Rattle.basics.proofs.Tests.{fits-mul, row-in}
-use Rattle.series.specs.Scratch.{width, Scratch}
+use Rattle.fit_series.specs.Inner.{width, Scratch}
 use borrow.Author.Needs.{needs}
 use Rattle.fit.proofs.inner.solved_in.Statement.{statement}
 use Rattle.fit.proofs.inner.solved_in.Tie as tie
 
 -- column n of row k of n rows stands in scratch
 first-in : {n k : ℕ} {l : List Float} → Scratch n l → k < n → k * width n + n < length l
-first-in {n} {k} s h = omega (arith, row-in k n (width n) h, s .room)
+first-in {n} {k} s h = omega (arith, row-in k n (width n) h, s .enough)
 
 pub solved-in-spec : {M : Type 1} → statement M
 solved-in-spec =

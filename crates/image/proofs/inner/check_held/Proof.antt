@@ -12,7 +12,7 @@ returns : tie.Need-returns
 returns c =
     let at-start : tie.Start = search in
     let a = at-start .args in
-    held-seven (a .b .now) (tables (a .stay .now) (a .moved .now) (a .totals .now)) (a .c) (a .rec) (at-start .pre .1) (at-start .pre .2)
+    held-seven (a .b .now) (tables (a .stay .now) (a .moved .now) (a .move-half-ticks .now)) (a .config) (a .rec) (at-start .pre .1) (at-start .pre .2)
     (c .before .before .state-count .ensures) (c .before .wrong-lengths .ensures) (c .if1 .taken)
 
 returns-2 : tie.Need-returns-2
@@ -20,7 +20,7 @@ returns-2 c =
     let at-state-count : tie.After-state-count = search in
     let at-start : tie.Start = search in
     let a = at-start .args in
-    held-eight (a .b .now) (tables (a .stay .now) (a .moved .now) (a .totals .now)) (a .c) (a .rec) (at-start .pre .1) (at-start .pre .2)
+    held-eight (a .b .now) (tables (a .stay .now) (a .moved .now) (a .move-half-ticks .now)) (a .config) (a .rec) (at-start .pre .1) (at-start .pre .2)
     (at-state-count .state-count .ensures) (c .before .before .before .wrong-lengths .ensures) (c .before .before .if1 .left) (c .before .is-broken .ensures)
     (c .if2 .taken)
 
@@ -30,7 +30,7 @@ check-tables-requires c κs =
     let at-start : tie.Start = search in
     let a = at-start .args in
     let p = at-start .pre in
-    (p .0, parts-lie (a .b .now) (a .c) (p .0) (p .3) _ (at-cell-count .cell-count .ensures .0) _ _ _)
+    (p .0, parts-lie (a .b .now) (a .config) (p .0) (p .3) _ (at-cell-count .cell-count .ensures .0) _ _ _)
 
 returns-3 : tie.Need-returns-3
 returns-3 c =
@@ -43,9 +43,10 @@ returns-3 c =
     let at-start : tie.Start = search in
     let a = at-start .args in
     let p = at-start .pre in
-    held-checked (a .b .now) (tables (a .stay .now) (a .moved .now) (a .totals .now)) (a .c) (a .rec) (p .1) (p .2) (at-state-count .state-count .ensures)
+    held-checked (a .b .now) (tables (a .stay .now) (a .moved .now) (a .move-half-ticks .now)) (a .config) (a .rec) (p .1) (p .2)
+    (at-state-count .state-count .ensures)
     (at-wrong-lengths .wrong-lengths .ensures) (at-else1 .if1 .left) (at-is-broken .is-broken .ensures) (at-else2 .if2 .left)
-    (parts-are (a .b .now) (a .c) (p .0) (p .3) _ (at-cell-count .cell-count .ensures .0) (a .stay .now) (a .moved .now) (a .totals .now))
+    (parts-are (a .b .now) (a .config) (p .0) (p .3) _ (at-cell-count .cell-count .ensures .0) (a .stay .now) (a .moved .now) (a .move-half-ticks .now))
     (c .check-tables .ensures)
 
 pub check-held-spec : {M : Type 1} → statement M

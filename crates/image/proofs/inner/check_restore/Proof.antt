@@ -5,7 +5,7 @@ use mathlib.Core.Path.{sym, ap, _∙_}
 use borrow.Author.Tests.{not-false}
 use Rattle.config.proofs.Known.{valid-known}
 use Rattle.tally.specs.Entries.{tables}
-use Rattle.layout.specs.Layout.{imageLength}
+use Rattle.image_layout.specs.Layout.{imageLength}
 use Rattle.image.proofs.Ways.{way-short, way-invalid, way-layout, way-held}
 use Rattle.image.proofs.Judged.{laid-out-whole}
 use borrow.Author.Needs.{needs}
@@ -16,13 +16,13 @@ returns : tie.Need-returns
 returns c =
     let at-start : tie.Start = search in
     let a = at-start .args in
-    way-short (a .b .now) (tables (a .stay .now) (a .moved .now) (a .totals .now)) (c .if1 .taken)
+    way-short (a .b .now) (tables (a .stay .now) (a .moved .now) (a .move-half-ticks .now)) (c .if1 .taken)
 
 returns-2 : tie.Need-returns-2
 returns-2 c =
     let at-start : tie.Start = search in
     let a = at-start .args in
-    way-invalid (a .b .now) (tables (a .stay .now) (a .moved .now) (a .totals .now)) (c .before .before .before .if1 .left)
+    way-invalid (a .b .now) (tables (a .stay .now) (a .moved .now) (a .move-half-ticks .now)) (c .before .before .before .if1 .left)
     (c .before .before .config-in .ensures) (c .before .is-valid .ensures) (c .if2 .taken)
 
 is-laid-out-requires : tie.Need-is-laid-out-requires
@@ -41,7 +41,7 @@ returns-3 c =
     let at-else1 : tie.Else1 = search in
     let at-start : tie.Start = search in
     let a = at-start .args in
-    way-layout (a .b .now) (tables (a .stay .now) (a .moved .now) (a .totals .now)) (at-else1 .if1 .left) (at-config-in .config-in .ensures)
+    way-layout (a .b .now) (tables (a .stay .now) (a .moved .now) (a .move-half-ticks .now)) (at-else1 .if1 .left) (at-config-in .config-in .ensures)
     (at-is-valid .is-valid .ensures) (c .before .before .before .if2 .left) (c .before .is-laid-out .ensures) (c .if3 .taken)
 
 check-held-requires : tie.Need-check-held-requires
@@ -64,7 +64,7 @@ returns-4 c =
     let at-else1 : tie.Else1 = search in
     let at-start : tie.Start = search in
     let a = at-start .args in
-    way-held (a .b .now) (tables (a .stay .now) (a .moved .now) (a .totals .now)) (at-else1 .if1 .left) (at-config-in .config-in .ensures)
+    way-held (a .b .now) (tables (a .stay .now) (a .moved .now) (a .move-half-ticks .now)) (at-else1 .if1 .left) (at-config-in .config-in .ensures)
     (at-is-valid .is-valid .ensures) (at-else2 .if2 .left) (c .before .before .is-laid-out .ensures) (c .before .if3 .left) (c .check-held .ensures)
 
 pub check-restore-spec : {M : Type 1} → statement M

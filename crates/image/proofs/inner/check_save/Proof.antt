@@ -1,34 +1,34 @@
--- `image::inner::check_save` meets its contract, refusals in the order of document 01: the room (1, 7), the output's length (7), the last quote (8), the counts
--- (6, 9 to 11). Each way out rewrites the answers and tests before it. Past the first test the configuration is valid and the tables have its lengths
--- (`known`), which is what the callees ask.
+-- `image::inner::check_save` meets its contract, refusals in the order of document 01: the configuration and the tables' lengths (1, 7), the output's length
+-- (7), the last quote (8), the counts (6, 9 to 11). Each way out rewrites the answers and tests before it. Past the first test the configuration is valid and
+-- the tables have its lengths (`known`), which is what the callees ask.
 use mathlib.Core.Path.{_≡_, sym, _∙_}
 use mathlib.Core.Bool.{false}
 use lib.ListN.{length}
 use borrow.Author.Tests.{eq-eqb, ne-eqb}
 use Rattle.config.specs.Configuration.{states}
-use Rattle.config.specs.Known.{Valid}
+use Rattle.config.specs.Inner.{Valid}
 use Rattle.calibrator.specs.Observe.{wrongLengths}
-use Rattle.calibrator.proofs.Room.{room-known, lengths-known}
+use Rattle.calibrator.proofs.Lengths.{tables-known, lengths-known}
 use borrow.Author.Needs.{needs}
 use Rattle.image.proofs.inner.check_save.Statement.{statement}
 use Rattle.image.proofs.inner.check_save.Tie as tie
 
 returns : tie.Need-returns
-returns c = rw (← c .before .before .check-room .ensures, c .enum-told2 .given .1)
+returns c = rw (← c .before .before .check-table-lengths .ensures, c .enum-told2 .given .1)
 
 -- past the first test the configuration is valid and the tables have its lengths
 known : (c : tie.After-enum-told) → let at-start : tie.Start = search in let a = at-start .args in
-    Valid (a .c) × (wrongLengths (states (a .c)) (length (a .stay .now)) (length (a .moved .now)) (length (a .totals .now)) ≡ false)
-known c = room-known _ _ _ _ (sym (c .before .before .check-room .ensures) ∙ c .enum-told .given .1)
+    Valid (a .config) × (wrongLengths (states (a .config)) (length (a .stay .now)) (length (a .moved .now)) (length (a .move-half-ticks .now)) ≡ false)
+known c = tables-known _ _ _ _ (sym (c .before .before .check-table-lengths .ensures) ∙ c .enum-told .given .1)
 
 image-length-requires : tie.Need-image-length-requires
 image-length-requires c κs = known c .0
 
 returns-2 : tie.Need-returns-2
 returns-2 c =
-    let at-check-room : tie.After-check-room = search in
+    let at-check-table-lengths : tie.After-check-table-lengths = search in
     rw (
-      ← at-check-room .check-room .ensures,
+      ← at-check-table-lengths .check-table-lengths .ensures,
       c .before .before .enum-told .given .1,
       ne-eqb _ _ (λ h. c .if1 .taken (h ∙ sym (c .before .image-length .ensures))),
     )
@@ -39,9 +39,9 @@ is-broken-requires c κs = known (c .before .before) .0 .tick-least
 returns-3 : tie.Need-returns-3
 returns-3 c =
     let at-enum-told : tie.After-enum-told = search in
-    let at-check-room : tie.After-check-room = search in
+    let at-check-table-lengths : tie.After-check-table-lengths = search in
     rw (
-      ← at-check-room .check-room .ensures,
+      ← at-check-table-lengths .check-table-lengths .ensures,
       at-enum-told .enum-told .given .1,
       eq-eqb _ _ (c .before .before .if1 .left ∙ c .before .before .before .image-length .ensures),
       ← c .before .is-broken .ensures,
@@ -60,9 +60,9 @@ returns-4 c =
     let at-else1 : tie.Else1 = search in
     let at-image-length : tie.After-image-length = search in
     let at-enum-told : tie.After-enum-told = search in
-    let at-check-room : tie.After-check-room = search in
+    let at-check-table-lengths : tie.After-check-table-lengths = search in
     rw (
-      ← at-check-room .check-room .ensures,
+      ← at-check-table-lengths .check-table-lengths .ensures,
       at-enum-told .enum-told .given .1,
       eq-eqb _ _ (at-else1 .if1 .left ∙ at-image-length .image-length .ensures),
       ← c .before .before .before .is-broken .ensures,

@@ -12,7 +12,7 @@ returns c =
     let at-get-table : tie.After-get-table = search in
     let at-start : tie.Start = search in
     let a = at-start .args in
-    read-is (a .b .now) (a .stay .now) (a .moved .now) (a .totals .now) (at-start .pre) refl (at-get-table .get-table .ensures)
+    read-is (a .b .now) (a .stay .now) (a .moved .now) (a .move-half-ticks .now) (at-start .pre) refl (at-get-table .get-table .ensures)
     (at-get-table2 .get-table2 .ensures) (c .before .get-totals .ensures)
 
 pub read-tables-spec : {M : Type 1} → statement M

@@ -1,21 +1,21 @@
 -- `image::inner::write_image` meets its contract: the header and the three tables are stored one after another, each where the one before it ends. The length
--- that the contract requires gives each table its room, as no store changes the length (`stay-room`, `moved-room`, `totals-room`); the four stores together
--- fill the output with the image (`image-written`). No loop.
+-- that the contract requires gives each table its place, as no store changes the length (`stay-inside`, `moved-inside`, `totals-inside`); the four stores
+-- together fill the output with the image (`image-written`). No loop.
 use borrow.Author.Needs.{needs}
-use Rattle.calibrator.proofs.Room.{lengths-known}
-use Rattle.image.proofs.Written.{Writable, stay-room, moved-room, totals-room, image-written}
+use Rattle.calibrator.proofs.Lengths.{lengths-known}
+use Rattle.image.proofs.Written.{Writable, stay-inside, moved-inside, totals-inside, image-written}
 use Rattle.image.proofs.inner.write_image.Statement.{statement}
 use Rattle.image.proofs.inner.write_image.Tie as tie
 
 -- what the contract requires
-writable : (c : tie.Start) → let a = c .args in Writable (a .c) (a .stay .now) (a .moved .now) (a .totals .now) (a .out .now)
+writable : (c : tie.Start) → let a = c .args in Writable (a .config) (a .stay .now) (a .moved .now) (a .move-half-ticks .now) (a .out .now)
 writable c = record { sizes = lengths-known _ _ _ _ (c .pre .1); long = c .pre .2 }
 
 put-table-requires-2 : tie.Need-put-table-requires-2
 put-table-requires-2 c κs =
     let at-put-table : tie.After-put-table = search in
     let at-start : tie.Start = search in
-    stay-room (writable at-start) (at-put-table .put-table .kept .0)
+    stay-inside (writable at-start) (at-put-table .put-table .kept .0)
 
 put-table-requires-3 : tie.Need-put-table-requires-3
 put-table-requires-3 c κs =
@@ -23,7 +23,7 @@ put-table-requires-3 c κs =
     let at-put-table : tie.After-put-table = search in
     let at-cell-count : tie.After-cell-count = search in
     let at-start : tie.Start = search in
-    moved-room (writable at-start) (at-cell-count .cell-count .ensures .0) (at-put-table .put-table .kept .0) (at-put-table2 .put-table2 .kept .0)
+    moved-inside (writable at-start) (at-cell-count .cell-count .ensures .0) (at-put-table .put-table .kept .0) (at-put-table2 .put-table2 .kept .0)
 
 put-totals-requires : tie.Need-put-totals-requires
 put-totals-requires c κs =
@@ -32,7 +32,7 @@ put-totals-requires c κs =
     let at-put-table : tie.After-put-table = search in
     let at-cell-count : tie.After-cell-count = search in
     let at-start : tie.Start = search in
-    totals-room (writable at-start) (at-cell-count .cell-count .ensures .0) (at-put-table .put-table .kept .0) (at-put-table2 .put-table2 .kept .0)
+    totals-inside (writable at-start) (at-cell-count .cell-count .ensures .0) (at-put-table .put-table .kept .0) (at-put-table2 .put-table2 .kept .0)
     (at-put-table3 .put-table3 .kept .0)
 
 returns : tie.Need-returns

@@ -16,7 +16,7 @@ returns c =
     let at-from-bits : tie.After-from-bits = search in
     let at-start : tie.Start = search in
     let a = at-start .args in
-    let t = a .table .now in
+    let t = a .model .now in
     let k = a .i in
     let bucket : getD t (7 * k) 0 ≡ rowWord t k 0 = ap (λ (p : ℕ). getD t p 0) (sym (add-zero (7 * k))) in
     λ j.

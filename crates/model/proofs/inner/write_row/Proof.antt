@@ -16,7 +16,7 @@ returns c =
     let at-float-word : tie.After-float-word = search in
     let at-start : tie.Start = search in
     let a = at-start .args in
-    row-written (a .table .now) (7 * a .i) (a .e) _ _ _ _ _ _ _
+    row-written (a .model .now) (7 * a .i) (a .e) _ _ _ _ _ _ _
     refl refl refl (at-float-word .float-word .ensures) (at-float-word2 .float-word2 .ensures) (at-float-word3 .float-word3 .ensures) refl
 
 pub write-row-spec : {M : Type 1} → statement M

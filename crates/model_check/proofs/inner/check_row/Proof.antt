@@ -23,7 +23,7 @@ returns c =
     let at-mirror-of : tie.After-mirror-of = search in
     let at-start : tie.Start = search in
     let a = at-start .args in
-    row-refused (a .config) (a .table .now) (a .i) (at-mirror-of .mirror-of .ensures) (c .before .before .before .read-row .ensures)
+    row-refused (a .config) (a .model .now) (a .i) (at-mirror-of .mirror-of .ensures) (c .before .before .before .read-row .ensures)
     (c .before .before .read-row2 .ensures) (c .before .row-fine .ensures) (c .if1 .taken)
 
 returns-2 : tie.Need-returns-2
@@ -31,7 +31,7 @@ returns-2 c =
     let at-mirror-of : tie.After-mirror-of = search in
     let at-start : tie.Start = search in
     let a = at-start .args in
-    row-passed (a .config) (a .table .now) (a .i) (at-mirror-of .mirror-of .ensures) (c .before .before .before .read-row .ensures)
+    row-passed (a .config) (a .model .now) (a .i) (at-mirror-of .mirror-of .ensures) (c .before .before .before .read-row .ensures)
     (c .before .before .read-row2 .ensures) (c .before .row-fine .ensures) (c .if1 .left)
 
 pub check-row-spec : {M : Type 1} → statement M

@@ -25,18 +25,18 @@ mul-first : tie.Need-mul-first
 mul-first c = fits-mul 256 256 (omega arith) (omega arith) tt
 
 -- the bucket is one of the n
-below : (c : tie.After-bucket-of) → let at-start : tie.Start = search in c .bucket-of .result < at-start .args .c .«imbalance_buckets»
+below : (c : tie.After-bucket-of) → let at-start : tie.Start = search in c .bucket-of .result < at-start .args .config .«imbalance_buckets»
 below c =
     let at-start : tie.Start = search in
     let a = at-start .args in
-    omega (arith, c .bucket-of .ensures, bucket-le (a .q .«bid_size») (a .q .«ask_size») (a .c .«imbalance_buckets»))
+    omega (arith, c .bucket-of .ensures, bucket-le (a .q .«bid_size») (a .q .«ask_size») (a .config .«imbalance_buckets»))
 
 -- the first state of the spread is a product of small numbers
 small : (c : tie.After-bucket-of) → let at-start : tie.Start = search in
-    (c .before .before .before .spread-of .result - 1) * at-start .args .c .«imbalance_buckets» ≤ 256 * 256
+    (c .before .before .before .spread-of .result - 1) * at-start .args .config .«imbalance_buckets» ≤ 256 * 256
 small c =
     let at-start : tie.Start = search in
-    mul-le-mul {n₁ = c .before .before .before .spread-of .result - 1} {m₁ = at-start .args .c .«imbalance_buckets»} {n₂ = 256} {m₂ = 256} (omega arith)
+    mul-le-mul {n₁ = c .before .before .before .spread-of .result - 1} {m₁ = at-start .args .config .«imbalance_buckets»} {n₂ = 256} {m₂ = 256} (omega arith)
     (omega arith)
 
 returns-2 : tie.Need-returns-2
@@ -47,7 +47,7 @@ returns-2 c =
       ← at-spread-of .spread-of .ensures,
       ← c .bucket-of .ensures,
       le-ltb _ _ (c .before .if1 .left),
-      mirror-row (at-start .args .c .«imbalance_buckets») (at-spread-of .spread-of .result - 1) (c .bucket-of .result) (below c),
+      mirror-row (at-start .args .config .«imbalance_buckets») (at-spread-of .spread-of .result - 1) (c .bucket-of .result) (below c),
     )
 
 pub place-of-spec : {M : Type 1} → statement M

@@ -7,7 +7,7 @@ use mathlib.Core.Path.{_∙_}
 use native.Mathlib.Omega.{arith}
 use borrow.Author.Needs.{needs}
 use Rattle.calibrator.specs.Record.{memory}
-use Rattle.recording.proofs.Runs.{Observing, observing-uneven, observing-start, observing-room, observing-on, observing-stop, observing-end}
+use Rattle.recording.proofs.Runs.{Observing, observing-uneven, observing-start, observing-few, observing-on, observing-stop, observing-end}
 use Rattle.recording.proofs.inner.observe_recording.Statement.{statement}
 use Rattle.recording.proofs.inner.observe_recording.Tie as tie
 
@@ -63,7 +63,7 @@ add-invalid c =
     let at-start : tie.Start Inv-loop μ-loop = search in
     omega (
       arith,
-      observing-room (at-loop .loop .inv) (in-loop .loop-test .taken) (at-observe .observe .result .answer) (c .invalid-in .ensures),
+      observing-few (at-loop .loop .inv) (in-loop .loop-test .taken) (at-observe .observe .result .answer) (c .invalid-in .ensures),
       at-start .good,
     )
 

@@ -1,0 +1,11 @@
+pub mod Parts
+pub mod Rows
+pub mod Steps
+pub mod Pivot
+pub mod Cells
+pub mod Columns
+pub mod Exact
+pub mod Ratios
+pub mod Fractions
+pub mod Binary64
+pub mod Computed

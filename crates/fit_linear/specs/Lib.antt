@@ -1,0 +1,4 @@
+pub mod Arithmetic
+pub mod Elimination
+pub mod Exact
+pub mod Inner

@@ -1,4 +1,0 @@
-pub mod Below
-pub mod Marks
-pub mod Mirror
-pub mod Steps

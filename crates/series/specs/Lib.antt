@@ -1,3 +1,0 @@
-pub mod Series
-pub mod Scratch
-pub mod Loops

@@ -1,4 +1,0 @@
-pub mod Filling
-pub mod Solving
-pub mod Fits
-pub mod MoreRounds
