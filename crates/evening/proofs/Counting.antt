@@ -20,7 +20,7 @@ use Rattle.evening.specs.Evening.{endEvening, countedBy, counted}
 use Rattle.evening.specs.declared.Evening.the-variants.{Fitted, Refused}
 
 module _ (c : MicroPriceConfig) where
-  -- new leaves a new calibrator where there is room
+  -- new leaves a new calibrator where the tables have their lengths
   pub new-fresh : (o : Outcome Previous) (m : Memory Previous) → o ≡ made c m → checkMemory c m ≡ Check.Fine → o .left ≡ fresh c
   new-fresh o m e fine = ap (λ (x : Outcome Previous). x .left) e ∙ ap (λ (k : Check). answered k m (fresh c) .left) fine
 
@@ -45,7 +45,7 @@ module _ (c : MicroPriceConfig) where
         → o ≡ made c m
         → checkMemory c m ≡ Check.Fine
         → endEvening (Refused r) (o .left) model scratch ≡ counted c d model scratch
-    counted-refused a k m r o e is new room =
-        ap (λ (m : Memory Previous). endEvening (Refused r) m model scratch) (new-fresh o m new room)
+    counted-refused a k m r o e is new tables =
+        ap (λ (m : Memory Previous). endEvening (Refused r) m model scratch) (new-fresh o m new tables)
         ∙ ap (λ (a : Check). countedBy c a k m model scratch) (sym is)
         ∙ ap (λ (d : RecordedOutcome Previous). counted c d model scratch) e

@@ -33,14 +33,14 @@ module _ (c : MicroPriceConfig) (w : List ℕ) (start end : ℕ) where
     pub window-is : checkWindow w start end ≡ Check.Fine
     window-is = rest .0
 
-    pub room-is : checkTableLengths c stay moved totals ≡ Check.Fine
-    room-is = first-fine (checkTableLengths c stay moved totals) (refuseIf (wrongFitLengths (states c) scratch model) 7) (rest .1) .0
+    pub tables-fine : checkTableLengths c stay moved totals ≡ Check.Fine
+    tables-fine = first-fine (checkTableLengths c stay moved totals) (refuseIf (wrongFitLengths (states c) scratch model) 7) (rest .1) .0
 
   -- where the window and the tables are fine, the last test decides
   pub last-judged : (stay moved totals scratch model : ℕ) → checkWindow w start end ≡ Check.Fine → checkTableLengths c stay moved totals ≡ Check.Fine
       → {n : ℕ} → n ≡ states c → {b : Bool} → b ≡ wrongFitLengths n scratch model → refuseIf b 7 ≡ checkLengths c w start end stay moved totals scratch model
-  last-judged stay moved totals scratch model window room counted judged =
-      rw (window, room) (ap (λ b. refuseIf b 7) (judged ∙ ap (λ n. wrongFitLengths n scratch model) counted))
+  last-judged stay moved totals scratch model window tables counted judged =
+      rw (window, tables) (ap (λ b. refuseIf b 7) (judged ∙ ap (λ n. wrongFitLengths n scratch model) counted))
 
   -- the part handed out has whole quotes
   pub part-even : (part : List ℕ) → part ≡ handed w start end → uneven part ≡ false

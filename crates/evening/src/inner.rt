@@ -10,31 +10,31 @@ use refusals::Check;
 use refusals::Refusal;
 ghost use mathlib.Core.Path.{_≡_};
 ghost use mathlib.Core.Bool.{false};
+ghost use mathlib.Core.List.{List};
+ghost use Prim.Native.Nat.{ℕ};
 ghost use lib.ListN.{length};
 ghost use Rattle.basics.specs.Loan.{given, final};
 ghost use Rattle.refusals.specs.declared.Check.the-variants.{Fine};
 ghost use Rattle.calibrator.specs.Record.{came, remains};
 ghost use Rattle.calibrator.specs.Observe.{checkTableLengths, fresh};
 ghost use Rattle.recording.specs.Recording.{quotesOf, uneven};
-ghost use Rattle.recording.specs.Window.{checkWindow};
+ghost use Rattle.recording.specs.Window.{checkWindow, windowOf};
 ghost use Rattle.recording.specs.Observe.{recorded, recordedAs};
 ghost use Rattle.evening.specs.Evening.{checkLengths, endEvening, counted, calibrated};
 
-// 7, 14, 15.
-fn check_window(w: &[u64], start: u64, end: u64) -> Check
-    ensures { λ r. ⌜ r ≡ checkWindow (given w) start end ⌝ }
+// 7, 14, 15, by the answer of `window_of`.
+fn check_window(window: Window) -> Check
+    ensures { λ r. ⌜ ((w : List ℕ) (start end : ℕ) → window ≡ windowOf w start end → r ≡ checkWindow w start end) ⌝ }
 {
-    match recording::window_of(w, start, end) {
+    match window {
         Window::Part(_) => Check::Fine,
         Window::Refused(r) => Check::Refused(r),
     }
 }
 
-// 7, 14, 15, 1, 7.
+// 7, 14, 15, by the answer of `window_of`; 1, 7.
 fn check_evening(
-    w: &[u64],
-    start: u64,
-    end: u64,
+    window: Window,
     config: MicroPriceConfig,
     stay: usize,
     moved: usize,
@@ -42,11 +42,12 @@ fn check_evening(
     scratch: usize,
     model: usize,
 ) -> Check
-    ensures { λ r. ⌜ r ≡ checkLengths config (given w) start end stay moved «move_half_ticks» scratch model ⌝ }
+    ensures { λ r. ⌜ ((w : List ℕ) (start end : ℕ) → window ≡ windowOf w start end
+        → r ≡ checkLengths config w start end stay moved «move_half_ticks» scratch model) ⌝ }
 {
-    let window = check_window(w, start, end);
-    let Check::Fine = window else {
-        return window;
+    let judged = check_window(window);
+    let Check::Fine = judged else {
+        return judged;
     };
     let lengths = calibrator::inner::check_table_lengths(config, stay, moved, move_half_ticks);
     let Check::Fine = lengths else {
@@ -137,10 +138,9 @@ pub fn calibrate_micro_price(
     ensures { λ r. ⌜ endEvening (r .answer) (remains (r .next) stay moved «move_half_ticks») (final model) (final scratch)
         ≡ calibrated config (came rec stay moved «move_half_ticks») (given recording) start end (given model) (given scratch) ⌝ }
 {
+    let window = recording::window_of(recording, start, end);
     let k = check_evening(
-        recording,
-        start,
-        end,
+        window,
         config,
         stay.len(),
         moved.len(),
@@ -154,7 +154,7 @@ pub fn calibrate_micro_price(
             next: rec,
         },
         Check::Fine => {
-            let part = recording::quotes_in(recording, start, end);
+            let part = recording::inner::part_of(recording, recording::inner::part_ends(window));
             count_and_fit(
                 rec,
                 stay,

@@ -22,6 +22,7 @@ use Rattle.calibrator.specs.Observe.{refuses}
 use Rattle.recording.specs.Recording.{quotesOf, uneven, sortedFrom, sorted, filter}
 use Rattle.recording.specs.Window.{inside, before, backward, checkWindow, endsOf, windowUnless, windowOf, partEnds, partOf}
 use Rattle.recording.specs.declared.Ends.{Ends}
+use Rattle.recording.specs.declared.Window.{Window}
 use Rattle.recording.proofs.Recordings.{sorted-known, sorted-filter, part-length, part-even, part-quotes}
 use Rattle.recording.proofs.Windows.{none-before, any-count, ends-lie}
 
@@ -71,6 +72,11 @@ module _ (w : List ℕ) (start end : ℕ) where
   -- the words that quotes_in hands out
   abbrev pub handed : List ℕ
   handed = partOf (partEnds (windowOf w start end) .first) (partEnds (windowOf w start end) .past) w
+
+  -- as code has its part
+  pub handed-known : (found : Window) (e : Ends) (part : List ℕ) → found ≡ windowOf w start end → e ≡ partEnds found → part ≡ partOf (e .first) (e .past) w
+      → part ≡ handed
+  handed-known found e part f h p = p ∙ ap (λ (x : Ends). partOf (x .first) (x .past) w) (h ∙ ap partEnds f)
 
   -- whole quotes
   pub handed-even : uneven handed ≡ false

@@ -9,13 +9,13 @@ use refusals::Check;
 use refusals::Refusal;
 ghost use mathlib.Core.Path.{_≡_};
 ghost use mathlib.Core.Bool.{true};
-ghost use Prim.Native.Nat.{_+_, _*_, _≤_};
+ghost use Prim.Native.Nat.{_+_, _*_, _/_, _≤_};
 ghost use lib.ListN.{length};
 ghost use Rattle.basics.specs.Loan.{given};
 ghost use Rattle.basics.specs.Lists.{bit, count};
 ghost use Rattle.calibrator.specs.Record.{came, remains};
 ghost use Rattle.recording.specs.Recording.{quoteAt, quotesOf, sorted};
-ghost use Rattle.recording.specs.Window.{before, partEnds};
+ghost use Rattle.recording.specs.Window.{before, partEnds, PartIn};
 ghost use Rattle.recording.specs.Observe.{isInvalid, isStop, recordedAs};
 ghost use Rattle.recording.specs.Inner.{recordedOf};
 
@@ -79,6 +79,16 @@ pub fn part_ends(found: Window) -> Ends
         Window::Part(ends) => ends,
         Window::Refused(_) => Ends { first: 0, past: 0 },
     }
+}
+
+// The part of a recording from quote `first` up to, not including, quote `past`.
+pub fn part_of(recording: &[u64], ends: Ends) -> &[u64]
+    requires { ⌜ (ends .first ≤ ends .past) × (ends .past ≤ length (now recording) / 5) ⌝ }
+    ensures { λ r. ⌜ PartIn ends (recording .entry) r ⌝ }
+{
+    let from = 5 * ends.first;
+    let to = 5 * ends.past;
+    &recording[from..to]
 }
 
 // ---- counting

@@ -52,7 +52,5 @@ pub fn quotes_in(recording: &[u64], start: u64, end: u64) -> &[u64]
     ensures { λ r. ⌜ PartIn (partEnds (windowOf (given recording) start end)) (recording .entry) r ⌝ }
 {
     let ends = inner::part_ends(window_of(recording, start, end));
-    let from = 5 * ends.first;
-    let to = 5 * ends.past;
-    &recording[from..to]
+    inner::part_of(recording, ends)
 }

@@ -1,5 +1,5 @@
 -- `evening::inner::count_and_fit` meets its contract. Its two ways out are the two cases of `countedBy`: a quote stopped the count, and `new` leaves a new
--- calibrator, as the tables still have the lengths for which there was room (`counted-refused`); or all quotes were counted, and the counts are fitted
+-- calibrator, as the tables still have their lengths (`counted-refused`); or all quotes were counted, and the counts are fitted
 -- (`counted-fitted`). No loop.
 use mathlib.Core.Path.{_∙_}
 use Rattle.calibrator.specs.Observe.{checkTableLengths}
@@ -22,10 +22,10 @@ returns c =
     let at-slice-known : tie.After-slice-known = search in
     let at-start : tie.Start = search in
     let a = at-start .args in
-    let room = (λ j. checkTableLengths (a .config) (at-stay .stay .given j) (at-moved .moved .given j) (at-move-half-ticks .move-half-ticks .given j))
+    let tables = (λ j. checkTableLengths (a .config) (at-stay .stay .given j) (at-moved .moved .given j) (at-move-half-ticks .move-half-ticks .given j))
     ∙ at-start .pre .0 in
     counted-refused (a .config) _ (a .model .now) (a .scratch .now) _ _ _ _ _ (at-count-part .count-part .ensures) (at-observed .observed .given .1)
-    (at-new .new .ensures) room
+    (at-new .new .ensures) tables
 
 returns-2 : tie.Need-returns-2
 returns-2 c =

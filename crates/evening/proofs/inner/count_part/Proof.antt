@@ -1,5 +1,5 @@
--- `evening::inner::count_part` meets its contract: the tables have room, so `new` leaves a new calibrator's memory (`new-fresh`); the part has whole quotes, so
--- what counting it leaves is what its quotes leave from that memory (`recorded-new`). No loop, and one way out.
+-- `evening::inner::count_part` meets its contract: the tables have their lengths, so `new` leaves a new calibrator's memory (`new-fresh`); the part has whole
+-- quotes, so what counting it leaves is what its quotes leave from that memory (`recorded-new`). No loop, and one way out.
 use Rattle.calibrator.specs.Record.{memory}
 use mathlib.Core.Path.{_∙_}
 use Rattle.evening.proofs.Counting.{new-fresh, recorded-new}
