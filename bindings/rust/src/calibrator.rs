@@ -264,7 +264,7 @@ impl Calibrator {
     }
 }
 
-/// The configuration that an image tells, for the lengths of the tables; zeros if it is too short.
+/// The configuration that an image holds, for the lengths of the tables; zeros if it is too short.
 fn config_in(image: &[u8]) -> Config {
     let word = |place: usize| {
         let bytes = image.get(8 * place..).and_then(|rest| rest.first_chunk());

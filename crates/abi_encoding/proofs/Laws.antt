@@ -61,7 +61,7 @@ record-written r s m t = written-of (r .previous) (r .counters) s m t
 
 -- ---- as code judges them
 
--- ten words compared with those of the record that they tell
+-- ten words compared with those of the record that they hold
 ten-quoted : (a b c d e f g h i j : ℕ) → eqb a 1 ≡ true → isRecord (a ∷ b ∷ c ∷ d ∷ e ∷ f ∷ g ∷ h ∷ i ∷ j ∷ []) ≡ true
 ten-quoted a b c d e f g h i j one = rw (one, one) (simp eqb-same)
 
@@ -138,7 +138,7 @@ module _ (c w : List ℕ) (b : Bool) where
       let k = both (isConfig c) (isRecord w) e in
       record { is = e; config = k .0; ten = record-long w (k .1) }
 
--- an operation on the record and the configuration that judged words tell: what is left of it, x, is what the exported operation says
+-- an operation on the record and the configuration that judged words hold: what is left of it, x, is what the exported operation says
 module _ (c w s m : List ℕ) (t : List ℤ) {b : Bool} (k : Judged b c w) {r : Record} (record-is : r ≡ recordOf w)
     {d : MicroPriceConfig} (decoded : d ≡ configOf c) where
   pub operation-words : {O X : Type 0} (f : MicroPriceConfig → Memory Previous → O) (out : O → X) {o : O} → o ≡ f d (memory r s m t) → {x : X} → x ≡ out o

@@ -56,7 +56,7 @@ countersOf w =
 abbrev pub recordOf : List ℕ → Record
 recordOf w = record { previous = previousOf w; counters = countersOf w }
 
--- the words are those of the record that they tell
+-- the words are those of the record that they hold
 abbrev pub isRecord : List ℕ → Bool
 isRecord w = sameWords w (recordWordsOf (memory (recordOf w) [] [] []))
 

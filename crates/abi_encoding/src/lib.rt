@@ -89,7 +89,7 @@ fn previous_of(w: &[u64]) -> Previous
     })
 }
 
-// The record that ten words tell, whatever they hold.
+// The record that ten words hold, whatever they are.
 pub fn record_of(w: &[u64]) -> Record
     requires { ⌜ length (now w) ≡ 10 ⌝ }
     ensures { λ r. ⌜ r ≡ recordOf (given w) ⌝ }

@@ -1,4 +1,4 @@
--- The check that a window's answer tells.
+-- The check that a window's answer comes from.
 use mathlib.Core.Path.{_≡_, refl}
 use Rattle.basics.proofs.Tests.{zero-not-one}
 use Rattle.refusals.specs.declared.Check.{Check}

@@ -60,7 +60,7 @@ row-exact {n} {stay} {moved} {totals} {x} {o} e h is-o =
       observed-exact = rw is-o (observations-fit n 0 stay moved x (e .cells) h);
     }
 
--- the number of a mark tells whether the row is used
+-- the number of a mark says whether the row is used
 pub used-number : (s : StateStatus) → eqb (statusNumber s) 0 ≡ isCalibrated s
 used-number Calibrated = refl
 used-number Rare = refl

@@ -53,7 +53,7 @@ abbrev pub heldWith : MicroPriceConfig → Previous → Counts → Tables → Ch
 heldWith c l k t =
     firstOf (refuseIf (lentWrong (states c) t) 7) (firstOf (refuseIf (broken c l) 8) (checkMirrored c k))
 
--- c and r are what the image tells, n the states, w whether the lent lengths are wrong for them, k whether the last quote is broken
+-- c and r are what the image holds, n the states, w whether the lent lengths are wrong for them, k whether the last quote is broken
 module _ (b : List ℕ) (t : Tables) (c : MicroPriceConfig) (r : Record) {n : ℕ} {w : Bool} (ec : c ≡ configIn b) (er : r ≡ recordIn b) (en : n ≡ states c)
     (ew : w ≡ lentWrong n t) where
   abbrev held : Tables → Check

@@ -111,7 +111,7 @@ sameWords [] (y ∷ ys) = false
 sameWords (x ∷ xs) [] = false
 sameWords (x ∷ xs) (y ∷ ys) = eqb x y && sameWords xs ys
 
--- the header's words are those of the content that it tells, and the length is that content's
+-- the header's words are those of the content that they hold, and the length is that content's
 abbrev pub laidOut : List ℕ → Bool
 laidOut b =
     sameWords (headerIn b) (header (configIn b) (previousIn b) (memoryIn b .counts)) && eqb (length b) (imageLength (configIn b))

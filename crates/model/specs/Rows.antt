@@ -28,22 +28,22 @@ rowWords e =
 
 -- word k of row i
 abbrev pub rowWord : List ℕ → ℕ → ℕ → ℕ
-rowWord t i k = getD t (7 * i + k) 0
+rowWord model i k = getD model (7 * i + k) 0
 
 -- row i, its words as they are and its floats by their bits
 abbrev pub rowAt : List ℕ → ℕ → StateEstimate
-rowAt t i =
+rowAt model i =
     record {
-      «imbalance_bucket» = rowWord t i 0;
-      «spread_ticks» = rowWord t i 1;
-      observations = rowWord t i 2;
-      «first_adjustment» = fromBits (rowWord t i 3);
-      adjustment = fromBits (rowWord t i 4);
-      «fallback_within_moves» = fromBits (rowWord t i 5);
-      status = rowWord t i 6;
+      «imbalance_bucket» = rowWord model i 0;
+      «spread_ticks» = rowWord model i 1;
+      observations = rowWord model i 2;
+      «first_adjustment» = fromBits (rowWord model i 3);
+      adjustment = fromBits (rowWord model i 4);
+      «fallback_within_moves» = fromBits (rowWord model i 5);
+      status = rowWord model i 6;
     }
 
--- an estimate with each zero as plus zero: what its row tells, by the law row-back
+-- an estimate with each zero as plus zero: what its row holds, by the law row-back
 abbrev pub plusZeros : StateEstimate → StateEstimate
 plusZeros e =
     record {

@@ -85,14 +85,14 @@ rowFine c i e mirror =
 
 -- 13 at row i, unless it is fine
 abbrev pub checkRow : MicroPriceConfig → List ℕ → ℕ → Check
-checkRow c t i =
-    cond (rowFine c i (rowAt t i) (rowAt t (mirrorOf (c .«imbalance_buckets») i))) Fine (Refused (ModelRow i))
+checkRow c model i =
+    cond (rowFine c i (rowAt model i) (rowAt model (mirrorOf (c .«imbalance_buckets») i))) Fine (Refused (ModelRow i))
 
 -- a table has seven words a state
 abbrev pub wrongLength : MicroPriceConfig → List ℕ → Bool
-wrongLength c t = not (eqb (length t) (7 * states c))
+wrongLength c model = not (eqb (length model) (7 * states c))
 
 -- 1, 7, 13 at the first bad row
 abbrev pub checkModel : MicroPriceConfig → List ℕ → Check
-checkModel c t =
-    firstOf (checkConfig c) (firstOf (refuseIf (wrongLength c t) 7) (firstFrom (checkRow c t) 0 (states c)))
+checkModel c model =
+    firstOf (checkConfig c) (firstOf (refuseIf (wrongLength c model) 7) (firstFrom (checkRow c model) 0 (states c)))

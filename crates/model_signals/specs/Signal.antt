@@ -58,13 +58,13 @@ rowServes c i e =
 
 -- the signal of state i
 abbrev pub signalOfRow : MicroPriceConfig → List ℕ → TopOfBook → ℕ → Signalled
-signalOfRow c t q i =
-    cond (rowServes c i (rowAt t i)) (sent q (adjustmentOf (rowAt t i)) (sourceOf (rowAt t i .status))) (Refused (ModelRow i))
+signalOfRow c model q i =
+    cond (rowServes c i (rowAt model i)) (sent q (adjustmentOf (rowAt model i)) (sourceOf (rowAt model i .status))) (Refused (ModelRow i))
 
 -- the signal at a place; a spread over s is not refused
 abbrev pub signalAt : MicroPriceConfig → List ℕ → TopOfBook → Place → Signalled
-signalAt c t q (State a) = signalOfRow c t q (a .state)
-signalAt c t q (NoState r) = sent q posZero SpreadOutOfRange
+signalAt c model q (State a) = signalOfRow c model q (a .state)
+signalAt c model q (NoState r) = sent q posZero SpreadOutOfRange
 
 abbrev pub sentUnless : Check → Signalled → Signalled
 sentUnless Check.Fine s = s
@@ -72,8 +72,8 @@ sentUnless (Check.Refused r) s = Refused r
 
 -- 1, 7, 2, 3, 4
 abbrev pub signalRefusal : MicroPriceConfig → List ℕ → TopOfBook → Check
-signalRefusal c t q = firstOf (checkConfig c) (firstOf (refuseIf (wrongLength c t) 7) (checkQuote c q))
+signalRefusal c model q = firstOf (checkConfig c) (firstOf (refuseIf (wrongLength c model) 7) (checkQuote c q))
 
 -- those, then 13 where the row of the quote's state does not serve
 abbrev pub signalOf : MicroPriceConfig → List ℕ → TopOfBook → Signalled
-signalOf c t q = sentUnless (signalRefusal c t q) (signalAt c t q (placeOf c q))
+signalOf c model q = sentUnless (signalRefusal c model q) (signalAt c model q (placeOf c q))

@@ -54,25 +54,25 @@ counterLines pairs spread gap largest invalid =
 
 -- state, bucket, spread, observations
 abbrev pub rowNumbers : List ℕ → ℕ → List ℕ
-rowNumbers t i = spaced i ++ spaced (rowWord t i 0) ++ spaced (rowWord t i 1) ++ spaced (rowWord t i 2)
+rowNumbers model i = spaced i ++ spaced (rowWord model i 0) ++ spaced (rowWord model i 1) ++ spaced (rowWord model i 2)
 
 -- three floats' bits: first adjustment, adjustment, share
 abbrev pub rowFloats : List ℕ → ℕ → List ℕ
-rowFloats t i = bits (rowWord t i 3) ++ bits (rowWord t i 4) ++ bits (rowWord t i 5)
+rowFloats model i = bits (rowWord model i 3) ++ bits (rowWord model i 4) ++ bits (rowWord model i 5)
 
 -- these and the status
 abbrev pub rowLine : List ℕ → ℕ → List ℕ
-rowLine t i = rowNumbers t i ++ rowFloats t i ++ named [] (rowWord t i 6)
+rowLine model i = rowNumbers model i ++ rowFloats model i ++ named [] (rowWord model i 6)
 
 -- states 0 to n − 1
 abbrev pub rowLines : List ℕ → ℕ → List ℕ
-rowLines t zero = []
-rowLines t (suc i) = rowLines t i ++ rowLine t i
+rowLines model zero = []
+rowLines model (suc i) = rowLines model i ++ rowLine model i
 
 -- the rows; a failed fit puts its number there
 abbrev pub fitLines : Check → List ℕ → ℕ → List ℕ
-fitLines Check.Fine t n = rowLines t n
-fitLines (Check.Refused r) t n = named fitWord (numberOf r)
+fitLines Check.Fine model n = rowLines model n
+fitLines (Check.Refused r) model n = named fitWord (numberOf r)
 
 -- ---- writing them
 

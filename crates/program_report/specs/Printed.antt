@@ -32,8 +32,8 @@ badLine = 98 ∷ 97 ∷ 100 ∷ 32 ∷ 105 ∷ 110 ∷ 112 ∷ 117 ∷ 116 ∷ n
 
 -- a refusal before the fit; or the counters, which are given but for the invalid quotes, and the fit
 abbrev pub outcomeLines : ℕ → Evening → (ℕ → List ℕ) → List ℕ → List ℕ
-outcomeLines n (Refused r) counters t = named refusedWord (numberOf r)
-outcomeLines n (Fitted d) counters t = counters (d .invalid) ++ fitLines (d .answer) t n
+outcomeLines n (Refused r) counters model = named refusedWord (numberOf r)
+outcomeLines n (Fitted d) counters model = counters (d .invalid) ++ fitLines (d .answer) model n
 
 abbrev pub countLines : Counts → ℕ → List ℕ
 countLines k = counterLines (k .pairs) (getD (k .skips) 0 0) (getD (k .skips) 1 0) (k .largest)

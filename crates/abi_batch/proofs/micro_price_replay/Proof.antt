@@ -1,5 +1,5 @@
 -- `abi_batch::micro_price_replay` meets its contract. The ways out: words that are not encoded are answered 100 and nothing is written (`replay-refused`);
--- encoded words tell the record and the configuration, and what the replay promises of them it promises of the words: of a bad encoding with no word written
+-- encoded words hold the record and the configuration, and what the replay promises of them it promises of the words: of a bad encoding with no word written
 -- (`replay-uncoded`), else with the record written back (`replay-ran`). The calls after the test ask of the words only what the test says (`known`). No loop.
 use mathlib.Core.Path.{sym, _∙_}
 use borrow.Author.Tests.{not-true, not-false}

@@ -1,4 +1,4 @@
--- `abi_counting::micro_price_validate` meets its contract: other than five words are answered 100; five words tell a configuration, whose check goes out as its
+-- `abi_counting::micro_price_validate` meets its contract: other than five words are answered 100; five words hold a configuration, whose check goes out as its
 -- number. Both ways out are the definition with its test on the length decided. No loop.
 use borrow.Author.Tests.{eq-eqb, ne-eqb}
 use borrow.Author.Needs.{needs}

@@ -1,5 +1,5 @@
--- `abi_encoding::is_record` meets its contract: words are a record's if they are those of the record that they tell. The ways out: not ten words, and a record
--- has ten (`no-record`); word 0 is 1, and any quote may follow (`record-quoted`); any other word 0 tells no last quote, whose six words are 0
+-- `abi_encoding::is_record` meets its contract: words are a record's if they are those of the record that they hold. The ways out: not ten words, and a record
+-- has ten (`no-record`); word 0 is 1, and any quote may follow (`record-quoted`); any other word 0 stands for no last quote, whose six words are 0
 -- (`record-nothing`).
 use mathlib.Core.Path.{sym}
 use Rattle.abi_encoding.proofs.Laws.{no-record, record-quoted, record-nothing}

@@ -1,5 +1,5 @@
 -- `abi_fit::micro_price_fit_counts` meets its contract. The ways out: words that are not encoded are answered 100 and nothing is written, the second case
--- of `fitWords`; encoded words tell the record and the configuration, and what `fit::inner::fit_counts` answers of them goes out as a number (`fit-words`). The
+-- of `fitWords`; encoded words hold the record and the configuration, and what `fit::inner::fit_counts` answers of them goes out as a number (`fit-words`). The
 -- calls after the test ask of the words only what the test says (`known`). No loop.
 use mathlib.Core.Path.{sym, _∙_}
 use borrow.Author.Tests.{not-true, not-false}

@@ -1,5 +1,5 @@
 -- `image_layout::is_laid_out` meets its contract: the header that code makes of the configuration and the record read is the one that the definition compares
--- with, as the contract requires both to be what the image tells; then come the two tests of the definition, the words and the length (`laid-out-is`).
+-- with, as the contract requires both to be what the image holds; then come the two tests of the definition, the words and the length (`laid-out-is`).
 use Rattle.image_layout.proofs.Headers.{laid-out-is}
 use borrow.Author.Needs.{needs}
 use Rattle.image_layout.proofs.is_laid_out.Statement.{statement}
