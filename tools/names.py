@@ -2,7 +2,8 @@
 """names.py: the names of definitions. Run at the root of the repository; it does not need rt. It prints, and ends 1 if it prints anything:
 
 - a name that two files of specs/ define: a definition, a record, a data type or one of its cases; a struct or an enum of a crate's code counts too;
-- a file of specs/ that takes a name from an `Inner`, where a reader would have to believe what stands there, other than those of RESTS;
+- a file of specs/ or the contract of a function that is not inner that takes a name from an `Inner`, so that a reader would have to believe what stands
+  there, other than those of RESTS;
 - a definition outside of `Inner` that nothing believed needs: no contract of a function that is not inner, no theorem named in docs/PROMISES.md."""
 import glob, re, sys
 
@@ -70,13 +71,16 @@ def resting():
     for path, (_, module), text in specs():
         if module != "Inner" and path not in RESTS and any(m == "Inner" for _, m, _, _ in IMPORT.findall(text)):
             yield f"{path} takes a name from an Inner"
+    for function, text, (names, modules) in contracts():
+        for crate, module, name in sorted(needs(text, names, modules)):
+            if module == "Inner": yield f"the contract of {function} takes {name} from the Inner of {crate}"
 
 def contracts():
-    """The text of each contract that a reader meets, with the sources of its file."""
+    """(function, its contract, the sources of its file), of each contract that a reader meets."""
     for path in sorted(glob.glob("crates/*/src/lib.rt")):
         crate, text = path.split("/")[1], open(path).read()
         for name, contract in re.findall(r"fn (\w+)\b((?:[^{]|\{ (?:λ|⌜))*?)\n\s*\{\n", text):
-            if not HELPERS.fullmatch(crate) or (crate, name) in ALSO: yield without_comments(contract), sources(text)
+            if not HELPERS.fullmatch(crate) or (crate, name) in ALSO: yield f"{crate}::{name}", without_comments(contract), sources(text)
 
 def statements():
     """The text of each theorem that docs/PROMISES.md names, with the sources of its file."""
@@ -100,7 +104,8 @@ def unneeded():
             texts[here + (name,)] = part
             where[here + (name,)] = sources(text)
     reached = set()
-    waiting = {d for text, (names, modules) in [*contracts(), *statements()] for d in needs(text, names, modules)}
+    read = [(text, where_from) for _, text, where_from in contracts()] + [*statements()]
+    waiting = {d for text, (names, modules) in read for d in needs(text, names, modules)}
     while waiting:
         d = waiting.pop()
         if d in reached or d not in texts: continue
