@@ -14,13 +14,14 @@ use Rattle.history_replay.specs.Replay.{site, wellCoded, callsFrom, Replay, rep
 use Rattle.history_replay.specs.declared.Replayed.{Replayed}
 use Rattle.history_replay.specs.declared.Replayed.the-variants.{Done, BadEncoding}
 use Rattle.evening.specs.Evening.{EveningOutcome, calibrated}
-use Rattle.abi_encoding.specs.Encoding.{configOf, recordWordsOf, recordOf, encoded, badEncoding, lent}
+use Rattle.config.specs.Configuration.{configOf}
+use Rattle.abi_encoding.specs.Encoding.{recordWordsOf, recordOf, encoded, badEncoding, lent}
 use Rattle.abi_encoding.proofs.Laws.{chosen, Long, Encoded, operation-words}
 use Rattle.abi_batch.specs.Batch.{lentEvening, eveningNumber, invalidAfter, recordAfterEvening, ofEvening, calibrateWords, LentReplay, lentReplay, replayedNumber, recordAfterReplay, ofReplay, replayWords, PromisedWords}
 
 -- ---- the evening
 
--- five and ten words, with the record and the configuration of them
+-- words of the right lengths, with the record and the configuration of them
 module _ (c w s m : List ℕ) (t : List ℤ) (k : Long c w) {r : Record} (record-is : r ≡ recordOf w) {d : MicroPriceConfig} (decoded : d ≡ configOf c) where
   pub evening-words : (recording : List ℕ) (start end : ℕ) (model : List ℕ) (scratch : List Float) (invalid : ℕ)
       {o : EveningOutcome} → o ≡ calibrated d (memory r s m t) recording start end model scratch

@@ -19,7 +19,8 @@ use Rattle.history_replay.specs.declared.Replayed.the-variants.{Done, BadEncodi
 use Rattle.evening.specs.Evening.{EveningOutcome, calibrated}
 use Rattle.evening.specs.declared.Evening.{Evening}
 use Rattle.evening.specs.declared.Evening.the-variants as Evening
-use Rattle.abi_encoding.specs.Encoding.{configOf, recordWordsOf, recordOf, fiveAndTen, encoded, badEncoding, Lent, lent, lentAs}
+use Rattle.config.specs.Configuration.{configOf}
+use Rattle.abi_encoding.specs.Encoding.{recordWordsOf, recordOf, rightWords, encoded, badEncoding, Lent, lent, lentAs}
 
 -- ---- the evening: document 01, "An evening's calibration"
 
@@ -75,7 +76,7 @@ ofEvening w invalid o =
 -- the record is overwritten: its words may be any
 abbrev pub calibrateWords : List ℕ → List ℕ → List ℕ → List ℕ → List ℤ → List ℕ → ℕ → ℕ → List ℕ → List Float → ℕ → LentEvening
 calibrateWords c w s m t recording start end model scratch invalid =
-    cond (fiveAndTen c w) (ofEvening w invalid (calibrated (configOf c) (memory (recordOf w) s m t) recording start end model scratch))
+    cond (rightWords c w) (ofEvening w invalid (calibrated (configOf c) (memory (recordOf w) s m t) recording start end model scratch))
     (lentEvening badEncoding w s m t model scratch invalid)
 
 -- ---- the replay: document 01, "The history"

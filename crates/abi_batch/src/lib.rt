@@ -9,7 +9,7 @@ ghost use mathlib.Core.List.{[]};
 ghost use lib.ListN.{length};
 ghost use Rattle.basics.specs.Loan.{given, final};
 ghost use Rattle.calibrator.specs.Record.{memory};
-ghost use Rattle.abi_encoding.specs.Encoding.{lent};
+ghost use Rattle.abi_encoding.specs.Encoding.{recordLength, lent};
 ghost use Rattle.abi_batch.specs.Batch.{lentEvening, eveningNumber, invalidAfter, hasCounted, recordAfterEvening, calibrateWords, lentReplay, PromisedWords};
 
 // An evening's answer as a number; with a fit's answer the number of invalid quotes is written.
@@ -39,9 +39,9 @@ fn has_counted(answer: Evening) -> bool
     }
 }
 
-// Writes the record where quotes were counted. Its caller has ten words.
+// Writes the record where quotes were counted. Its caller has as many words.
 fn put_counted(rec: &mut [u64], answer: Evening, next: Record)
-    requires { ⌜ length (now rec) ≡ 10 ⌝ }
+    requires { ⌜ length (now rec) ≡ recordLength ⌝ }
     ensures { λ _. ⌜ final rec ≡ recordAfterEvening answer (given rec) (memory next [] [] []) ⌝ }
 {
     if has_counted(answer) {
@@ -68,7 +68,7 @@ pub extern "C" fn micro_price_calibrate(
     ensures { λ n. ⌜ lentEvening n (final rec) (final stay) (final moved) (final «move_half_ticks») (final model) (final scratch) (final invalid)
         ≡ calibrateWords (given config) (given rec) (given stay) (given moved) (given «move_half_ticks») (given recording) start end (given model) (given scratch) (given invalid) ⌝ }
 {
-    if !abi_encoding::five_and_ten(config, rec) {
+    if !abi_encoding::right_words(config, rec) {
         return BAD_ENCODING;
     }
     let done = evening::inner::calibrate_micro_price(
@@ -76,7 +76,7 @@ pub extern "C" fn micro_price_calibrate(
         stay,
         moved,
         move_half_ticks,
-        abi_encoding::config_of(config),
+        config::inner::config_of(config),
         recording,
         start,
         end,
@@ -112,7 +112,7 @@ pub extern "C" fn micro_price_replay(
         stay,
         moved,
         move_half_ticks,
-        abi_encoding::config_of(config),
+        config::inner::config_of(config),
         calls,
         room,
         answers,

@@ -21,7 +21,8 @@ use Rattle.tally.specs.Rules.{Memory}
 use Rattle.image_words.specs.Words.{AllWords}
 use Rattle.calibrator.specs.Record.{memory}
 use Rattle.calibrator.specs.declared.Previous.{Previous}
-use Rattle.abi_encoding.specs.Encoding.{configOf, recordOf, recordWordsOf, fiveAndTen, badEncoding}
+use Rattle.config.specs.Configuration.{configOf}
+use Rattle.abi_encoding.specs.Encoding.{recordOf, recordWordsOf, rightWords, badEncoding}
 use Rattle.history.specs.Calls.{ConfigWords}
 use Rattle.evening.specs.Evening.{EveningOutcome, calibrated}
 use Rattle.evening.specs.declared.Evening.{Evening}
@@ -69,7 +70,7 @@ module _ (c w s m : List ℕ) (t : List ℤ) (recording : List ℕ) (start end :
 
   pub calibrate-unchanged : ConfigWords (configOf c) → AllWords recording → isUnwritten (x .answer) ≡ true
       → x ≡ lentEvening (x .answer) w s m t model scratch invalid
-  calibrate-unchanged fits words = go (fiveAndTen c w)
+  calibrate-unchanged fits words = go (rightWords c w)
     where
       go : (b : Bool) → let y = cond b (ofEvening w invalid outcome) (lentEvening badEncoding w s m t model scratch invalid) in
           isUnwritten (y .answer) ≡ true → y ≡ lentEvening (y .answer) w s m t model scratch invalid

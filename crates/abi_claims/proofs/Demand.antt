@@ -14,13 +14,13 @@ use Rattle.refusals.specs.declared.Check.{Check}
 use Rattle.refusals.specs.declared.Check.the-variants.{Fine, Refused}
 use Rattle.refusals.proofs.Numbers.{zero-fine}
 use Rattle.refusals.proofs.Refusals.{if-fine, first-fine}
-use Rattle.config.specs.Configuration.{valid, checkConfig}
+use Rattle.config.specs.Configuration.{valid, checkConfig, isConfig, configOf}
 use Rattle.config.specs.declared.MicroPriceConfig.{MicroPriceConfig}
 use Rattle.tally.specs.Rules.{Memory}
 use Rattle.calibrator.specs.Record.{memory, answered}
 use Rattle.calibrator.specs.Observe.{fresh, checkMemory}
 use Rattle.calibrator.specs.declared.Previous.{Previous}
-use Rattle.abi_encoding.specs.Encoding.{isConfig, configOf, recordOf, fiveAndTen, badEncoding, lent}
+use Rattle.abi_encoding.specs.Encoding.{recordLength, recordOf, rightWords, badEncoding, lent}
 use Rattle.history.specs.Calls.{newPast, run, OwnImages, ConfigWords}
 use Rattle.history.specs.Demand.{left}
 use Rattle.model_signals.specs.Signal.{signalOf}
@@ -29,7 +29,7 @@ use Rattle.history_claims.specs.Models.{Model, Demand3Whole}
 use Rattle.history_claims.proofs.Claims.{demand-3-whole}
 use Rattle.abi_counting.specs.Counting.{ofOutcome, newWords}
 use Rattle.abi_fit.specs.FitWindow.{LentFit, lentFit, ofFit}
-use Rattle.abi_models.specs.Models.{lentSignal, ofSignalled}
+use Rattle.abi_models.specs.Models.{signalLength, lentSignal, ofSignalled}
 use Rattle.abi_claims.specs.WordCalls.{WordMemory, lentMemory, memoryInWords, WordCall, historyCalls, WordsRan, runWords, answersInWords, historyInWords}
 use Rattle.abi_claims.specs.Demand.{ranFromNew, fitInWords, Demand3Words}
 use Rattle.abi_claims.proofs.InWords.{HasKinds, kinds-left, words-encoded, memory-from-words, run-words}
@@ -49,15 +49,15 @@ module _ (c w s m : List ℕ) (t : List ℤ) where
   before = memory (recordOf w) s m t
 
   new-in-words : newWords c w s m t .answer ≡ 0 → NewInWords c w s m t
-  new-in-words = go (fiveAndTen c w) refl (checkMemory d before) refl
+  new-in-words = go (rightWords c w) refl (checkMemory d before) refl
     where
-      go : (b : Bool) → fiveAndTen c w ≡ b → (k : Check) → checkMemory d before ≡ k
+      go : (b : Bool) → rightWords c w ≡ b → (k : Check) → checkMemory d before ≡ k
           → cond b (ofOutcome w (answered k before (fresh d))) (lent badEncoding w s m t) .answer ≡ 0 → NewInWords c w s m t
       go false long k enough e = absurd (zero-not-one cc)
       go true long (Refused r) enough e = let none : Refused r ≡ Fine = zero-fine (Refused r) e in absurd (zero-not-one cc)
       go true long Fine enough e =
           record {
-            config = both (isConfig c) (eqb (length w) 10) long .0;
+            config = both (isConfig c) (eqb (length w) recordLength) long .0;
             valid-is = not-false _ (if-fine (not (valid d)) 1 (first-fine (checkConfig d) _ enough .0));
             leaves = λ i. lentMemory (cond (long i) (ofOutcome w (answered (enough i) before (fresh d))) (lent badEncoding w s m t));
           }
@@ -106,6 +106,6 @@ module _ (c w s m : List ℕ) (t : List ℤ) where
               subst (λ (x : LentFit). Model d (x .model)) (sym is)
               (whole .model model scratch (zero-fine (f .answer) (ap (λ (x : LentFit). x .answer) (sym is) ∙ zero-is)));
           signal-is =
-              λ model q out row four.
-              λ i. cond (made .config i && eq-eqb (length out) 4 four i) (ofSignalled (signalOf d model q) out row) (lentSignal badEncoding out row);
+              λ model q out row long.
+              λ i. cond (made .config i && eq-eqb (length out) signalLength long i) (ofSignalled (signalOf d model q) out row) (lentSignal badEncoding out row);
         }

@@ -20,7 +20,8 @@ use Rattle.calibrator.specs.declared.Previous.{Previous}
 use Rattle.calibrator.proofs.Memories as Memories
 use Rattle.recording.specs.Recording.{filter}
 use Rattle.image.specs.Image.{saved, takenUnless, restored, restoreRefusal}
-use Rattle.abi_encoding.specs.Encoding.{isConfig, isRecord, configOf, recordOf, recordWordsOf, encoded, badEncoding, lent}
+use Rattle.config.specs.Configuration.{isConfig, configOf}
+use Rattle.abi_encoding.specs.Encoding.{isRecord, recordOf, recordWordsOf, encoded, badEncoding, lent}
 use Rattle.abi_encoding.proofs.Laws.{record-back, record-written}
 use Rattle.history.specs.Calls.{Call, quote, save, restore, act, afterRestore, run}
 use Rattle.abi_counting.specs.Counting.{ofOutcome}

@@ -5,8 +5,9 @@ use mathlib.Core.Path.{_≡_, refl}
 use mathlib.Core.List.{List, [], _∷_}
 use lib.IntN.{pos}
 use lib.ListN.{replicate}
-use Rattle.abi_encoding.specs.Encoding.{configWords}
+use Rattle.config.specs.Configuration.{configLength, configWords}
 use Rattle.history.proofs.LastKept.{three-states, even-quote, empty-image, first-image, empty-output, sevens, two-states, returning-calls, returning-words, returning-own}
+use Rattle.abi_encoding.specs.Encoding.{recordLength}
 use Rattle.abi_counting.specs.Counting.{newWords}
 use Rattle.abi_claims.specs.WordCalls.{WordMemory, memoryInWords, WordCall, observing, saving, restoring, historyCalls}
 use Rattle.abi_claims.specs.Demand.{Demand3Words}
@@ -21,7 +22,7 @@ uncleared = 0xa5a5_a5a5_a5a5_a5a5
 
 -- what new is lent
 abbrev w : List ℕ
-w = replicate 10 uncleared
+w = replicate recordLength uncleared
 
 -- memory of the right lengths
 abbrev other : WordMemory
@@ -33,7 +34,7 @@ word-calls =
     observing (even-quote 0 5) ∷
     observing (even-quote 1 5) ∷
     saving empty-output ∷
-    restoring empty-image (replicate 5 uncleared) other ∷
+    restoring empty-image (replicate configLength uncleared) other ∷
     observing (even-quote 0 6) ∷
     observing (even-quote 1 5) ∷
     restoring first-image (replicate 4 0) other ∷

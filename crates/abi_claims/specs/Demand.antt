@@ -7,13 +7,13 @@ use lib.IntN.{ℤ}
 use lib.ListN.{length}
 use Rattle.quotes.specs.declared.TopOfBook.{TopOfBook}
 use Rattle.model_signals.specs.Signal.{signalOf}
-use Rattle.abi_encoding.specs.Encoding.{configOf}
+use Rattle.config.specs.Configuration.{configOf}
 use Rattle.history.specs.Demand.{left}
 use Rattle.fit.specs.Fit.{fitCounts}
 use Rattle.history_claims.specs.Models.{Model, Demand3Whole}
 use Rattle.abi_counting.specs.Counting.{newWords}
 use Rattle.abi_fit.specs.FitWindow.{LentFit, ofFit, fitWords}
-use Rattle.abi_models.specs.Models.{ofSignalled, signalWords}
+use Rattle.abi_models.specs.Models.{signalLength, ofSignalled, signalWords}
 use Rattle.abi_claims.specs.WordCalls.{WordMemory, lentMemory, WordCall, WordsRan, historyCalls, runWords, historyInWords}
 
 -- a list of calls on what micro_price_new leaves of the memory that it is lent
@@ -34,6 +34,6 @@ pub record Demand3Words (c w s m : List ℕ) (t : List ℤ) (ks : List WordCall)
       → fitInWords c (ranFromNew c w s m t ks .left) model scratch ≡ ofFit (fitCounts (configOf c) (left (configOf c) (historyCalls ks)) model scratch)
   pub model : (model : List ℕ) (scratch : List Float) → fitInWords c (ranFromNew c w s m t ks .left) model scratch .answer ≡ 0
       → Model (configOf c) (fitInWords c (ranFromNew c w s m t ks .left) model scratch .model)
-  -- the signal of any model table and quote, with four words for it
-  pub signal-is : (model : List ℕ) (q : TopOfBook) (out : List ℕ) (row : ℕ) → length out ≡ 4
+  -- the signal of any model table and quote, with words for it
+  pub signal-is : (model : List ℕ) (q : TopOfBook) (out : List ℕ) (row : ℕ) → length out ≡ signalLength
       → signalWords c model q out row ≡ ofSignalled (signalOf (configOf c) model q) out row

@@ -10,7 +10,8 @@ use Rattle.tally.specs.Rules.{Memory}
 use Rattle.calibrator.specs.Record.{memory}
 use Rattle.calibrator.specs.declared.Previous.{Previous}
 use Rattle.recording.specs.Recording.{filter}
-use Rattle.abi_encoding.specs.Encoding.{configOf, recordOf, recordWordsOf, fiveAndTen, badEncoding, Lent}
+use Rattle.config.specs.Configuration.{configOf}
+use Rattle.abi_encoding.specs.Encoding.{recordOf, recordWordsOf, rightWords, badEncoding, Lent}
 use Rattle.history.specs.Calls.{Call, quote, save, restore, Answer, observes, saves, restores, historyMemory, newPast, historyRun}
 use Rattle.abi_counting.specs.Counting.{observeWords}
 use Rattle.abi_image.specs.Images.{LentOut, ofSaved, saveWords, restoredNumber, configAfter, restoreWords}
@@ -79,11 +80,11 @@ runWords c h (k ∷ ks) =
 
 -- ---- the same as calls of the history
 
--- a restore that is lent other than five and ten words is answered with badEncoding, and is none
+-- a restore that is lent words of other lengths is answered with badEncoding, and is none
 abbrev pub isMade : WordCall → Bool
 isMade (observing q) = true
 isMade (saving out) = true
-isMade (restoring b d l) = fiveAndTen d (l .rec)
+isMade (restoring b d l) = rightWords d (l .rec)
 
 abbrev pub callOf : WordCall → Call
 callOf (observing q) = quote q

@@ -13,7 +13,8 @@ use Rattle.tally.specs.Rules.{Memory}
 use Rattle.calibrator.specs.Record.{memory, Outcome}
 use Rattle.calibrator.specs.declared.Previous.{Previous}
 use Rattle.calibrator.specs.declared.Record.{Record}
-use Rattle.abi_encoding.specs.Encoding.{configOf, recordWordsOf, recordOf, badEncoding, lent, wordsUnless}
+use Rattle.config.specs.Configuration.{configOf}
+use Rattle.abi_encoding.specs.Encoding.{recordWordsOf, recordOf, badEncoding, lent, wordsUnless}
 use Rattle.abi_encoding.proofs.Laws.{Judged, operation-words}
 use Rattle.abi_counting.specs.Counting.{ofOutcome}
 

@@ -11,7 +11,8 @@ use Rattle.tally.specs.Rules.{Memory, step}
 use Rattle.calibrator.specs.Record.{memory, answered}
 use Rattle.calibrator.specs.Observe.{checkMemory, fresh, rule, judge, refusalBy}
 use Rattle.calibrator.specs.declared.Previous.{Previous}
-use Rattle.abi_encoding.specs.Encoding.{configOf, recordOf, fiveAndTen, encoded, badEncoding, lent}
+use Rattle.config.specs.Configuration.{configOf}
+use Rattle.abi_encoding.specs.Encoding.{recordOf, rightWords, encoded, badEncoding, lent}
 use Rattle.abi_counting.specs.Counting.{ofOutcome, newWords, observeWords}
 
 module _ (w s m : List ℕ) (t : List ℤ) where
@@ -24,7 +25,7 @@ module _ (w s m : List ℕ) (t : List ℤ) where
 
 module _ (c w s m : List ℕ) (t : List ℤ) where
   pub new-unchanged : (newWords c w s m t .answer ≡ 0 → ⊥) → newWords c w s m t ≡ lent (newWords c w s m t .answer) w s m t
-  new-unchanged = outcome-kept w s m t (fiveAndTen c w) (checkMemory (configOf c) (memory (recordOf w) s m t)) (fresh (configOf c))
+  new-unchanged = outcome-kept w s m t (rightWords c w) (checkMemory (configOf c) (memory (recordOf w) s m t)) (fresh (configOf c))
 
   pub observe-unchanged : (q : TopOfBook) → (observeWords c w s m t q .answer ≡ 0 → ⊥)
       → observeWords c w s m t q ≡ lent (observeWords c w s m t q .answer) w s m t

@@ -1,6 +1,6 @@
 // Document 01's configuration, new and quote for callers in C and Rust: numbers and lent slices alone. include/micro_price.h says how they are called.
-// A configuration is five words, a record ten (specs/Encoding.antt of `abi_encoding`); other words are answered with BAD_ENCODING before all else, but new takes
-// any ten words for the record that it overwrites. Every other answer is 0 or the number of a refusal.
+// The words of a configuration and of a record are those of specs/Encoding.antt of `abi_encoding`; others are answered with BAD_ENCODING before all else, but new
+// takes any words of the right number for the record that it overwrites. Every other answer is 0 or the number of a refusal.
 use abi_encoding::BAD_ENCODING;
 use quotes::TopOfBook;
 use refusals::Check;
@@ -14,10 +14,10 @@ ghost use Rattle.abi_counting.specs.Counting.{validateWords, newWords, o
 pub extern "C" fn micro_price_validate(config: &[u64]) -> u64
     ensures { λ n. ⌜ n ≡ validateWords (given config) ⌝ }
 {
-    if config.len() != 5 {
+    if config.len() != config::inner::CONFIG_WORDS {
         return BAD_ENCODING;
     }
-    refusals::check_number(abi_encoding::config_of(config).validate())
+    refusals::check_number(config::inner::config_of(config).validate())
 }
 
 // Empties the record and zeroes the three tables. A refusal writes nothing.
@@ -31,7 +31,7 @@ pub extern "C" fn micro_price_new(
 ) -> u64
     ensures { λ n. ⌜ lent n (final rec) (final stay) (final moved) (final «move_half_ticks») ≡ newWords (given config) (given rec) (given stay) (given moved) (given «move_half_ticks») ⌝ }
 {
-    if !abi_encoding::five_and_ten(config, rec) {
+    if !abi_encoding::right_words(config, rec) {
         return BAD_ENCODING;
     }
     let before = abi_encoding::record_of(rec);
@@ -40,7 +40,7 @@ pub extern "C" fn micro_price_new(
         stay,
         moved,
         move_half_ticks,
-        abi_encoding::config_of(config),
+        config::inner::config_of(config),
     );
     let answer = made.answer;
     let Check::Fine = answer else {
@@ -83,7 +83,7 @@ pub extern "C" fn micro_price_observe(
         stay,
         moved,
         move_half_ticks,
-        abi_encoding::config_of(config),
+        config::inner::config_of(config),
         quote,
     );
     let answer = counted.answer;

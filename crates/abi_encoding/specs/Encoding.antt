@@ -1,37 +1,34 @@
 -- The words by which the exported operations lend a configuration and a record.
 use Prim.Native.Nat.{ℕ}
 use mathlib.Core.Bool.{Bool, cond, _&&_}
-use mathlib.Core.List.{List, [], _∷_}
+use mathlib.Core.List.{List, [], _∷_, _++_}
 use lib.Dec.{eqb}
 use lib.IntN.{ℤ}
 use lib.ListN.{length, getD}
+use Rattle.basics.specs.Lists.{sameWords}
 use Rattle.refusals.specs.declared.Check.{Check}
 use Rattle.refusals.specs.declared.Check.the-variants.{Fine, Refused}
-use Rattle.config.specs.Configuration.{newConfig, withMinStateObservations, withMaxQuoteGapMs}
-use Rattle.config.specs.declared.MicroPriceConfig.{MicroPriceConfig}
+use Rattle.config.specs.Configuration.{isConfig}
+use Rattle.quotes.specs.declared.Skip.the-variants.{Gap, Spread}
 use Rattle.quotes.specs.declared.TopOfBook.{TopOfBook}
+use Rattle.tally.specs.Events.{Counts}
 use Rattle.tally.specs.Rules.{Memory}
-use Rattle.calibrator.specs.Record.{memory}
+use Rattle.calibrator.specs.Record.{skipped, memory}
 use Rattle.calibrator.specs.declared.Counters.{Counters}
 use Rattle.calibrator.specs.declared.Previous.{Previous}
 use Rattle.calibrator.specs.declared.Previous.the-variants.{Nothing, Quoted}
 use Rattle.calibrator.specs.declared.Record.{Record}
-use Rattle.image_layout.specs.Layout.{recordWords, sameWords}
+use Rattle.image_layout.specs.Layout.{previousWords}
 
--- ---- a configuration: tick, buckets, spread states, least observations, largest gap
+-- ---- a record
 
-abbrev pub isConfig : List ℕ → Bool
-isConfig w = eqb (length w) 5
+-- how many words
+abbrev pub recordLength : ℕ
+recordLength = 10
 
-abbrev pub configWords : MicroPriceConfig → List ℕ
-configWords c =
-    c .«tick_size» ∷ c .«imbalance_buckets» ∷ c .«spread_states» ∷ c .«min_state_observations» ∷ c .«max_quote_gap_ms» ∷ []
-
-abbrev pub configOf : List ℕ → MicroPriceConfig
-configOf w =
-    withMaxQuoteGapMs (withMinStateObservations (newConfig (getD w 0 0) (getD w 1 0) (getD w 2 0)) (getD w 3 0)) (getD w 4 0)
-
--- ---- a record: its ten words in an image
+-- 1 if a last quote follows else 0, its five words (else zeros), pairs, spread skips, gap skips, largest change
+abbrev pub recordWords : Previous → Counts → List ℕ
+recordWords l k = previousWords l ++ (k .pairs ∷ skipped Spread k ∷ skipped Gap k ∷ k .largest ∷ [])
 
 -- those of a memory
 abbrev pub recordWordsOf : Memory Previous → List ℕ
@@ -60,9 +57,9 @@ recordOf w = record { previous = previousOf w; counters = countersOf w }
 abbrev pub isRecord : List ℕ → Bool
 isRecord w = sameWords w (recordWordsOf (memory (recordOf w) [] [] []))
 
--- five words, and ten: whatever they hold, they have room for a configuration and for a record
-abbrev pub fiveAndTen : List ℕ → List ℕ → Bool
-fiveAndTen c w = isConfig c && eqb (length w) 10
+-- whatever they hold, as many words as a configuration and a record have
+abbrev pub rightWords : List ℕ → List ℕ → Bool
+rightWords c w = isConfig c && eqb (length w) recordLength
 
 -- a configuration and a record
 abbrev pub encoded : List ℕ → List ℕ → Bool

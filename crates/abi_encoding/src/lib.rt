@@ -2,42 +2,21 @@
 use calibrator::Counters;
 use calibrator::Previous;
 use calibrator::Record;
-use config::MicroPriceConfig;
 use quotes::TopOfBook;
 ghost use mathlib.Core.Path.{_≡_};
-ghost use mathlib.Core.Bool.{true};
 ghost use mathlib.Core.List.{[]};
 ghost use Prim.Native.Nat.{_≤_};
 ghost use lib.ListN.{length};
 ghost use Rattle.basics.specs.Loan.{given, final};
 ghost use Rattle.calibrator.specs.Record.{memory};
-ghost use Rattle.abi_encoding.specs.Encoding.{isConfig, configOf, configWords, recordWordsOf, previousOf, recordOf, isRecord, fiveAndTen, encoded};
+ghost use Rattle.abi_encoding.specs.Encoding.{recordLength, recordWordsOf, previousOf, recordOf, isRecord, rightWords, encoded};
 ghost use Rattle.abi_encoding.specs.Inner.{areZero};
 
 // What an exported operation answers to words that are no configuration or no record.
 pub const BAD_ENCODING: u64 = 100;
 
-// The configuration of five words.
-pub fn config_of(w: &[u64]) -> MicroPriceConfig
-    requires { ⌜ isConfig (now w) ≡ true ⌝ }
-    ensures { λ r. ⌜ r ≡ configOf (given w) ⌝ }
-{
-    MicroPriceConfig::new(w[0], w[1], w[2])
-        .with_min_state_observations(w[3])
-        .with_max_quote_gap_ms(w[4])
-}
-
-// Writes the five words of a configuration.
-pub fn put_config(w: &mut [u64], config: MicroPriceConfig)
-    requires { ⌜ isConfig (now w) ≡ true ⌝ }
-    ensures { λ _. ⌜ final w ≡ configWords config ⌝ }
-{
-    w[0] = config.tick_size;
-    w[1] = config.imbalance_buckets;
-    w[2] = config.spread_states;
-    w[3] = config.min_state_observations;
-    w[4] = config.max_quote_gap_ms;
-}
+// How many words a record has.
+pub const RECORD_WORDS: usize = 10;
 
 // Whether five words are zero.
 fn are_zero(a: u64, b: u64, c: u64, d: u64, e: u64) -> bool
@@ -50,7 +29,7 @@ fn are_zero(a: u64, b: u64, c: u64, d: u64, e: u64) -> bool
 pub fn is_record(w: &[u64]) -> bool
     ensures { λ r. ⌜ r ≡ isRecord (given w) ⌝ }
 {
-    if w.len() != 10 {
+    if w.len() != RECORD_WORDS {
         return false;
     }
     if w[0] == 1 {
@@ -59,18 +38,18 @@ pub fn is_record(w: &[u64]) -> bool
     (w[0] == 0) & are_zero(w[1], w[2], w[3], w[4], w[5])
 }
 
-// Whether the words are five and ten.
-pub fn five_and_ten(config: &[u64], rec: &[u64]) -> bool
-    ensures { λ r. ⌜ r ≡ fiveAndTen (given config) (given rec) ⌝ }
+// Whether the words are as many as a configuration's and a record's.
+pub fn right_words(config: &[u64], rec: &[u64]) -> bool
+    ensures { λ r. ⌜ r ≡ rightWords (given config) (given rec) ⌝ }
 {
-    (config.len() == 5) & (rec.len() == 10)
+    (config.len() == config::inner::CONFIG_WORDS) & (rec.len() == RECORD_WORDS)
 }
 
 // Whether the words are a configuration's and a record's.
 pub fn is_encoded(config: &[u64], rec: &[u64]) -> bool
     ensures { λ r. ⌜ r ≡ encoded (given config) (given rec) ⌝ }
 {
-    (config.len() == 5) & is_record(rec)
+    (config.len() == config::inner::CONFIG_WORDS) & is_record(rec)
 }
 
 fn previous_of(w: &[u64]) -> Previous
@@ -89,9 +68,9 @@ fn previous_of(w: &[u64]) -> Previous
     })
 }
 
-// The record that ten words hold, whatever they are.
+// The record that words hold, whatever they are.
 pub fn record_of(w: &[u64]) -> Record
-    requires { ⌜ length (now w) ≡ 10 ⌝ }
+    requires { ⌜ length (now w) ≡ recordLength ⌝ }
     ensures { λ r. ⌜ r ≡ recordOf (given w) ⌝ }
 {
     let previous = previous_of(w);
@@ -104,9 +83,9 @@ pub fn record_of(w: &[u64]) -> Record
     Record { previous, counters }
 }
 
-// Writes the ten words of a record.
+// Writes the words of a record.
 pub fn put_record(w: &mut [u64], rec: Record)
-    requires { ⌜ length (now w) ≡ 10 ⌝ }
+    requires { ⌜ length (now w) ≡ recordLength ⌝ }
     ensures { λ _. ⌜ final w ≡ recordWordsOf (memory rec [] [] []) ⌝ }
 {
     let previous = rec.previous;

@@ -9,7 +9,8 @@ use Rattle.refusals.specs.declared.Check.{Check}
 use Rattle.config.specs.declared.MicroPriceConfig.{MicroPriceConfig}
 use Rattle.calibrator.specs.Record.{memory}
 use Rattle.calibrator.specs.declared.Record.{Record}
-use Rattle.abi_encoding.specs.Encoding.{configOf, recordOf, badEncoding}
+use Rattle.config.specs.Configuration.{configOf}
+use Rattle.abi_encoding.specs.Encoding.{recordOf, badEncoding}
 use Rattle.abi_encoding.proofs.Laws.{Encoded, operation-words}
 use Rattle.fit.specs.Fit.{endFit, fitCounts}
 use Rattle.abi_fit.specs.FitWindow.{lentFit, ofFit, fitWords}

@@ -7,7 +7,8 @@ use lib.Ieee.{Float}
 use lib.IntN.{ℤ}
 use Rattle.refusals.specs.Refusals.{numberOf, checkNumber}
 use Rattle.calibrator.specs.Record.{memory}
-use Rattle.abi_encoding.specs.Encoding.{configOf, recordOf, encoded, badEncoding}
+use Rattle.config.specs.Configuration.{configOf}
+use Rattle.abi_encoding.specs.Encoding.{recordOf, encoded, badEncoding}
 use Rattle.recording.specs.Window.{windowOf}
 use Rattle.recording.specs.declared.Window.{Window}
 use Rattle.recording.specs.declared.Window.the-variants as Window

@@ -26,7 +26,7 @@ pub extern "C" fn micro_price_fit_counts(
         stay,
         moved,
         move_half_ticks,
-        abi_encoding::config_of(config),
+        config::inner::config_of(config),
         scratch,
         model,
     );

@@ -10,11 +10,12 @@ use Rattle.calibrator.specs.Record.{memory}
 use Rattle.calibrator.specs.declared.Record.{Record}
 use Rattle.image.specs.Image.{Saved, saved, Taken, restored}
 use Rattle.image.specs.declared.Restored.the-variants.{Config, Refused}
-use Rattle.abi_encoding.specs.Encoding.{configWords, configOf, recordWordsOf, recordOf, badEncoding, lent}
+use Rattle.config.specs.Configuration.{configWords, configOf}
+use Rattle.abi_encoding.specs.Encoding.{recordWordsOf, recordOf, badEncoding, lent}
 use Rattle.abi_encoding.proofs.Laws.{Long, Encoded, operation-words}
 use Rattle.abi_image.specs.Images.{lentOut, ofSaved, saveWords, lentBack, restoredNumber, configAfter, recordAfter, ofTaken, restoreWords}
 
--- five and ten words, with the record of them, and an image restored
+-- words of the right lengths, with the record of them, and an image restored
 module _ (c w s m : List ℕ) (t : List ℤ) (k : Long c w) {r : Record} (record-is : r ≡ recordOf w) (b : List ℕ)
     {o : Taken} (done : o ≡ restored b (memory r s m t)) where
   back : {c′ : List ℕ} → c′ ≡ configAfter (o .answer) c → {w′ : List ℕ} → w′ ≡ recordAfter (o .answer) w (o .left)

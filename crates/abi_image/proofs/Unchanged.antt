@@ -9,9 +9,10 @@ use Rattle.refusals.specs.declared.Check.{Check}
 use Rattle.refusals.specs.declared.Check.the-variants.{Fine, Refused}
 use Rattle.tally.specs.Entries.{tables}
 use Rattle.calibrator.specs.Record.{memory}
-use Rattle.image_layout.specs.Layout.{image}
+use Rattle.image_layout.specs.Layout.{newest, image}
 use Rattle.image.specs.Image.{saveRefusal, savedUnless, restoreRefusal, takenUnless}
-use Rattle.abi_encoding.specs.Encoding.{configOf, recordOf, fiveAndTen, encoded, badEncoding, lent}
+use Rattle.config.specs.Configuration.{configOf}
+use Rattle.abi_encoding.specs.Encoding.{recordOf, rightWords, encoded, badEncoding, lent}
 use Rattle.abi_image.specs.Images.{lentOut, ofSaved, saveWords, lentBack, ofTaken, restoreWords}
 
 save-kept : (b : Bool) (k : Check) (out written : List ℕ) → let x = cond b (ofSaved (savedUnless k out written)) (lentOut badEncoding out) in
@@ -32,8 +33,8 @@ module _ (c w s m : List ℕ) (t : List ℤ) where
   pub save-unchanged : (out : List ℕ) → (saveWords c w s m t out .answer ≡ 0 → ⊥) → saveWords c w s m t out ≡ lentOut (saveWords c w s m t out .answer) out
   save-unchanged out =
       let before = memory (recordOf w) s m t in
-      save-kept (encoded c w) (saveRefusal (configOf c) before (length out)) out (image (configOf c) before)
+      save-kept (encoded c w) (saveRefusal (configOf c) before (length out)) out (image newest (configOf c) before)
 
   pub restore-unchanged : (b : List ℕ) → (restoreWords b c w s m t .rest .answer ≡ 0 → ⊥)
       → restoreWords b c w s m t ≡ lentBack c (lent (restoreWords b c w s m t .rest .answer) w s m t)
-  restore-unchanged b = restore-kept w s m t c b (fiveAndTen c w) (restoreRefusal b (tables s m t))
+  restore-unchanged b = restore-kept w s m t c b (rightWords c w) (restoreRefusal b (tables s m t))

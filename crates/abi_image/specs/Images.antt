@@ -1,5 +1,5 @@
 -- The exported forms of document 01's "The image": what they answer and leave in the memory that they are lent.
--- Words that are not encoded, and of restore other than five and ten words, are answered with badEncoding and leave it as it is; else it is the operation's
+-- Words that are not encoded, and of restore words of other lengths, are answered with badEncoding and leave it as it is; else it is the operation's
 -- own definition, in numbers and words.
 use Prim.Native.Nat.{ℕ}
 use mathlib.Core.Bool.{cond}
@@ -12,7 +12,8 @@ use Rattle.calibrator.specs.declared.Previous.{Previous}
 use Rattle.image.specs.Image.{Saved, saved, Taken, restored}
 use Rattle.image.specs.declared.Restored.{Restored}
 use Rattle.image.specs.declared.Restored.the-variants.{Config, Refused}
-use Rattle.abi_encoding.specs.Encoding.{configWords, configOf, recordWordsOf, recordOf, fiveAndTen, encoded, badEncoding, Lent, lent, lentAs}
+use Rattle.config.specs.Configuration.{configWords, configOf}
+use Rattle.abi_encoding.specs.Encoding.{recordWordsOf, recordOf, rightWords, encoded, badEncoding, Lent, lent, lentAs}
 
 -- an answer, and the output
 pub record LentOut : Type 0 where
@@ -59,4 +60,4 @@ ofTaken c w t =
 -- configuration and record are overwritten: their words may be any
 abbrev pub restoreWords : List ℕ → List ℕ → List ℕ → List ℕ → List ℕ → List ℤ → LentBack
 restoreWords b c w s m t =
-    cond (fiveAndTen c w) (ofTaken c w (restored b (memory (recordOf w) s m t))) (lentBack c (lent badEncoding w s m t))
+    cond (rightWords c w) (ofTaken c w (restored b (memory (recordOf w) s m t))) (lentBack c (lent badEncoding w s m t))

@@ -1,5 +1,5 @@
 // Document 01's save and restore for callers in C and Rust: numbers and lent slices alone. include/micro_price.h says how they are called.
-// Words that are no configuration or no record are answered with BAD_ENCODING before all else, but restore takes any five and any ten words for those that it
+// Words that are no configuration or no record are answered with BAD_ENCODING before all else, but restore takes any words of the right lengths for those that it
 // overwrites. Every other answer is 0 or the number of a refusal.
 use abi_encoding::BAD_ENCODING;
 use image::Restored;
@@ -28,7 +28,7 @@ pub extern "C" fn micro_price_save(
         stay,
         moved,
         move_half_ticks,
-        abi_encoding::config_of(config),
+        config::inner::config_of(config),
         out,
     );
     refusals::check_number(answer)
@@ -47,7 +47,7 @@ pub extern "C" fn micro_price_restore(
     ensures { λ n. ⌜ lentBack (final config) (lent n (final rec) (final stay) (final moved) (final «move_half_ticks»))
         ≡ restoreWords (given image) (given config) (given rec) (given stay) (given moved) (given «move_half_ticks») ⌝ }
 {
-    if !abi_encoding::five_and_ten(config, rec) {
+    if !abi_encoding::right_words(config, rec) {
         return BAD_ENCODING;
     }
     let before = abi_encoding::record_of(rec);
@@ -56,7 +56,7 @@ pub extern "C" fn micro_price_restore(
     match answer {
         Restored::Config(c) => {
             abi_encoding::put_record(rec, taken.next);
-            abi_encoding::put_config(config, c);
+            config::inner::put_config(config, c);
             0
         }
         Restored::Refused(r) => refusals::number_of(r),

@@ -10,7 +10,8 @@ use Rattle.refusals.specs.Refusals.{numberOf, rowOr}
 use Rattle.refusals.specs.declared.Check.{Check}
 use Rattle.refusals.specs.declared.Check.the-variants as Check
 use Rattle.quotes.specs.declared.TopOfBook.{TopOfBook}
-use Rattle.abi_encoding.specs.Encoding.{isConfig, configOf, badEncoding}
+use Rattle.config.specs.Configuration.{isConfig, configOf}
+use Rattle.abi_encoding.specs.Encoding.{badEncoding}
 use Rattle.model_check.specs.Check.{checkModel}
 use Rattle.model_signals.specs.Signal.{sourceNumber, signalOf}
 use Rattle.model_signals.specs.declared.MicroPriceSignal.{MicroPriceSignal}
@@ -36,7 +37,7 @@ checkModelWords c model row = cond (isConfig c) (ofCheck (checkModel (configOf c
 
 -- ---- the signal: document 01, "Model and signal"
 
--- an answer, the four words of a signal, and the word for a row
+-- an answer, the words of a signal, and the word for a row
 pub record LentSignal : Type 0 where
   pub answer : ℕ
   pub out : List ℕ
@@ -45,16 +46,20 @@ pub record LentSignal : Type 0 where
 abbrev pub lentSignal : ℕ → List ℕ → ℕ → LentSignal
 lentSignal answer out row = record { answer = answer; out = out; row = row }
 
--- time, bid + ask, the bits of the adjustment, the source's number
-abbrev pub fourWords : MicroPriceSignal → List ℕ
-fourWords s = s .«timestamp_ms» ∷ s .«mid_sum» ∷ toBits (s .adjustment) ∷ sourceNumber (s .source) ∷ []
+-- how many words
+abbrev pub signalLength : ℕ
+signalLength = 4
 
--- a refusal leaves the four words
+-- time, bid + ask, the bits of the adjustment, the source's number
+abbrev pub sentWords : MicroPriceSignal → List ℕ
+sentWords s = s .«timestamp_ms» ∷ s .«mid_sum» ∷ toBits (s .adjustment) ∷ sourceNumber (s .source) ∷ []
+
+-- a refusal leaves the words
 abbrev pub ofSignalled : Signalled → List ℕ → ℕ → LentSignal
-ofSignalled (Signalled.Sent s) out row = lentSignal 0 (fourWords s) row
+ofSignalled (Signalled.Sent s) out row = lentSignal 0 (sentWords s) row
 ofSignalled (Signalled.Refused r) out row = lentSignal (numberOf r) out (rowOr r row)
 
 abbrev pub signalWords : List ℕ → List ℕ → TopOfBook → List ℕ → ℕ → LentSignal
 signalWords c model q out row =
-    cond (isConfig c && eqb (length out) 4) (ofSignalled (signalOf (configOf c) model q) out row)
+    cond (isConfig c && eqb (length out) signalLength) (ofSignalled (signalOf (configOf c) model q) out row)
     (lentSignal badEncoding out row)

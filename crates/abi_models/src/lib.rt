@@ -11,7 +11,10 @@ ghost use lib.ListN.{length};
 ghost use Rattle.basics.specs.Loan.{given, final};
 ghost use Rattle.refusals.specs.Refusals.{numberOf, rowOr};
 ghost use Rattle.abi_encoding.specs.Encoding.{topOfBook};
-ghost use Rattle.abi_models.specs.Models.{lentRow, checkModelWords, lentSignal, fourWords, signalWords};
+ghost use Rattle.abi_models.specs.Models.{lentRow, checkModelWords, lentSignal, signalLength, sentWords, signalWords};
+
+// How many words a signal has.
+pub const SIGNAL_WORDS: usize = 4;
 
 // A refusal's number; at 13 the row that it names is written.
 fn put_row(r: Refusal, row: &mut u64) -> u64
@@ -26,10 +29,10 @@ fn put_row(r: Refusal, row: &mut u64) -> u64
 pub extern "C" fn micro_price_check_model(config: &[u64], model: &[u64], row: &mut u64) -> u64
     ensures { λ n. ⌜ lentRow n (final row) ≡ checkModelWords (given config) (given model) (given row) ⌝ }
 {
-    if config.len() != 5 {
+    if config.len() != config::inner::CONFIG_WORDS {
         return BAD_ENCODING;
     }
-    let checked = model_check::check_model(abi_encoding::config_of(config), model);
+    let checked = model_check::check_model(config::inner::config_of(config), model);
     match checked {
         Check::Fine => 0,
         Check::Refused(r) => put_row(r, row),
@@ -38,8 +41,8 @@ pub extern "C" fn micro_price_check_model(config: &[u64], model: &[u64], row: &m
 
 // Time, bid + ask, the bits of the adjustment, source.
 fn put_signal(out: &mut [u64], s: MicroPriceSignal)
-    requires { ⌜ length (now out) ≡ 4 ⌝ }
-    ensures { λ _. ⌜ final out ≡ fourWords s ⌝ }
+    requires { ⌜ length (now out) ≡ signalLength ⌝ }
+    ensures { λ _. ⌜ final out ≡ sentWords s ⌝ }
 {
     let source = s.source;
     out[0] = s.timestamp_ms;
@@ -63,10 +66,10 @@ pub extern "C" fn micro_price_signal(
 ) -> u64
     ensures { λ n. ⌜ lentSignal n (final out) (final row) ≡ signalWords (given config) (given model) (topOfBook «timestamp_ms» bid ask «bid_size» «ask_size») (given out) (given row) ⌝ }
 {
-    if config.len() != 5 {
+    if config.len() != config::inner::CONFIG_WORDS {
         return BAD_ENCODING;
     }
-    if out.len() != 4 {
+    if out.len() != SIGNAL_WORDS {
         return BAD_ENCODING;
     }
     let quote = TopOfBook {
@@ -76,7 +79,7 @@ pub extern "C" fn micro_price_signal(
         bid_size,
         ask_size,
     };
-    let sent = model_signals::signal(abi_encoding::config_of(config), model, quote);
+    let sent = model_signals::signal(config::inner::config_of(config), model, quote);
     match sent {
         Signalled::Sent(s) => {
             put_signal(out, s);

@@ -1,7 +1,7 @@
 -- Counts and sums of appended lists, lists made by a function of the place and their sums, and flat squares.
 use mathlib.Core.Path.{_≡_, refl, sym, _∙_, ap}
 use mathlib.Core.Logic.{_≢_}
-use mathlib.Core.Bool.{Bool}
+use mathlib.Core.Bool.{Bool, true}
 use mathlib.Core.List.{List, [], _∷_, _++_}
 use Prim.Native.Nat.{ℕ, zero, suc, _+_, _*_, _/_, _%_, _<_, max, suc-le-suc}
 use native.Mathlib.Nat.{not-suc-le-zero, le-of-suc-le-suc, zero-lt-suc, suc-ne-zero, suc-inj, zero-add, add-zero, add-assoc, mul-le-mul-right, mul-add-div-right, mul-add-mod-self-right, div-eq-of-lt, mod-eq-of-lt, div-add-mod'}
@@ -9,8 +9,11 @@ use native.Mathlib.Omega.{arith}
 use native.Mathlib.Decide.{ℕ-discrete}
 use lib.IntN.{ℤ, _+ℤ_, +ℤ-idl, +ℤ-idr, +ℤ-assoc}
 use lib.ListN.{length, getD, set, replicate, length-set}
+use lib.Dec.{eqb}
 use lib.Seq.{ext-getD, getD-set-same, getD-set-other}
-use Rattle.basics.specs.Lists.{bit, count, sumOf, greatest, tab, square, sum}
+use borrow.Author.Tests.{eqb-true}
+use Rattle.basics.specs.Lists.{bit, count, sumOf, greatest, tab, square, sum, sameWords}
+use Rattle.basics.proofs.Tests.{zero-not-one, both, eqb-same}
 
 module _ {A : Type 0} where
   pub count-append : (p : A → Bool) (xs ys : List A) → count p (xs ++ ys) ≡ count p xs + count p ys
@@ -116,3 +119,17 @@ sum-tab-one (suc n) f (suc k) h o =
 pub sum-replicate : (n : ℕ) → sum (replicate n 0) ≡ 0
 sum-replicate zero = refl
 sum-replicate (suc n) = omega (arith, sum-replicate n)
+
+-- ---- lists that are compared
+
+pub same-equal : (xs ys : List ℕ) → sameWords xs ys ≡ true → xs ≡ ys
+same-equal [] [] e = refl
+same-equal [] (y ∷ ys) e = absurd (zero-not-one cc)
+same-equal (x ∷ xs) [] e = absurd (zero-not-one cc)
+same-equal (x ∷ xs) (y ∷ ys) e =
+    let p = both (eqb x y) (sameWords xs ys) e in
+    λ i. eqb-true x y (p .0) i ∷ same-equal xs ys (p .1) i
+
+pub same-self : (l : List ℕ) → sameWords l l ≡ true
+same-self [] = refl
+same-self (x ∷ xs) = rw (eqb-same x) (same-self xs)

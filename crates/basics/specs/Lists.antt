@@ -2,6 +2,7 @@
 use Prim.Native.Nat.{ℕ, zero, suc, _+_, _*_, _/_, _%_, max}
 use mathlib.Core.Bool.{Bool, true, false, _&&_, _||_}
 use mathlib.Core.List.{List, [], _∷_}
+use lib.Dec.{eqb}
 use lib.IntN.{ℤ, pos, _+ℤ_}
 use lib.ListN.{getD}
 
@@ -53,3 +54,10 @@ allFrom p i (suc k) = p i && allFrom p (suc i) k
 abbrev pub sum : List ℕ → ℕ
 sum [] = 0
 sum (x ∷ xs) = x + sum xs
+
+-- the same numbers in the same order
+abbrev pub sameWords : List ℕ → List ℕ → Bool
+sameWords [] [] = true
+sameWords [] (y ∷ ys) = false
+sameWords (x ∷ xs) [] = false
+sameWords (x ∷ xs) (y ∷ ys) = eqb x y && sameWords xs ys

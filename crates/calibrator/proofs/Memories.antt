@@ -1,12 +1,13 @@
 -- A memory with a counter for each kind of skip is a record's with its tables.
-use mathlib.Core.Path.{_≡_, refl, ap}
-use mathlib.Core.List.{List, [], _∷_}
+use mathlib.Core.Path.{_≡_, ap}
+use mathlib.Core.List.{List}
 use Prim.Native.Nat.{ℕ}
-use native.Mathlib.Omega.{arith}
-use lib.ListN.{length, getD}
+use lib.ListN.{length}
+use Rattle.basics.proofs.Lists.{tab-getD}
 use Rattle.config.specs.declared.MicroPriceConfig.{MicroPriceConfig}
+use Rattle.quotes.specs.declared.Skip.the-variants.{Gap, Spread}
 use Rattle.tally.specs.Rules.{Memory}
-use Rattle.calibrator.specs.Record.{memory}
+use Rattle.calibrator.specs.Record.{kinds, skipped, memory}
 use Rattle.calibrator.specs.Observe.{rule}
 use Rattle.calibrator.specs.declared.Previous.{Previous}
 use Rattle.calibrator.specs.declared.Record.{Record}
@@ -18,17 +19,11 @@ recordOf m =
       counters =
           record {
             pairs = m .counts .pairs;
-            «skipped_spread_pairs» = getD (m .counts .skips) 0 0;
-            «skipped_gap_pairs» = getD (m .counts .skips) 1 0;
+            «skipped_spread_pairs» = skipped Spread (m .counts);
+            «skipped_gap_pairs» = skipped Gap (m .counts);
             «largest_move_half_ticks» = m .counts .largest;
           };
     }
-
-kinds-back : (l : List ℕ) → length l ≡ 2 → getD l 0 0 ∷ getD l 1 0 ∷ [] ≡ l
-kinds-back [] e = absurd (omega arith)
-kinds-back (x ∷ []) e = absurd (omega arith)
-kinds-back (x ∷ y ∷ []) e = refl
-kinds-back (x ∷ y ∷ z ∷ l) e = absurd (omega arith)
 
 pub record-back : (c : MicroPriceConfig) (m : Memory Previous) → length (m .counts .skips) ≡ rule c .kinds
     → memory (recordOf m) (m .counts .tables .stay) (m .counts .tables .moved) (m .counts .tables .totals) ≡ m
@@ -40,4 +35,4 @@ record-back c m e =
       counts =
           record { pairs = m .counts .pairs; skips = l; largest = m .counts .largest; tables = m .counts .tables };
     })
-    (kinds-back (m .counts .skips) e)
+    (tab-getD (m .counts .skips) kinds 0 e)

@@ -22,12 +22,12 @@ use Rattle.quotes.proofs.States.{place-located, mirror-below, mirror-involution
 use Rattle.tally.specs.Events.{isFirst, Counts}
 use Rattle.tally.specs.Rules.{InRange, Lawful, Memory, step, memoryOf}
 use Rattle.tally.proofs.Step.{step-memory}
-use Rattle.calibrator.specs.Record.{kindOf, answered}
+use Rattle.calibrator.specs.Record.{kinds, kindOf, answered}
 use Rattle.calibrator.specs.Observe.{eventFrom, eventOf, isQuoted, rule, judge, refusalBy, observed}
 use Rattle.calibrator.specs.declared.Previous.{Previous}
 use Rattle.calibrator.specs.declared.Previous.the-variants.{Nothing, Quoted}
 
-kind-below : (k : Skip) → kindOf k < 2
+kind-below : (k : Skip) → kindOf k < kinds
 kind-below Gap = omega arith
 kind-below Spread = omega arith
 
@@ -36,13 +36,13 @@ never-first (Skipped k) = refl
 never-first (Counted e) = refl
 
 module _ (c : MicroPriceConfig) (v : Valid c) where
-  pair-in : (p q : TopOfBook) (n : Neighbours) → neighboursOf c p q ≡ n → InRange 2 (states c) (eventFrom n)
+  pair-in : (p q : TopOfBook) (n : Neighbours) → neighboursOf c p q ≡ n → InRange kinds (states c) (eventFrom n)
   pair-in p q (Skipped k) h = kind-below k
   pair-in p q (Counted e) h =
       let k = counted-made c p q e h in
       (place-located c p v (e .from) (k .from-place) .below, place-located c q v (e .to) (k .to-place) .below)
 
-  event-in : (l : Previous) (q : TopOfBook) → InRange 2 (states c) (eventOf c l q)
+  event-in : (l : Previous) (q : TopOfBook) → InRange kinds (states c) (eventOf c l q)
   event-in Nothing q = tt
   event-in (Quoted p) q = pair-in p q (neighboursOf c p q) refl
 

@@ -18,7 +18,7 @@ use Rattle.quotes.specs.declared.TopOfBook.{TopOfBook}
 use Rattle.tally.specs.Events.{Event, first, skip, pair, zeros}
 use Rattle.tally.specs.Limits.{touched}
 use Rattle.tally.specs.Rules.{Rule, Memory, step}
-use Rattle.calibrator.specs.Record.{kindOf, Outcome, answered}
+use Rattle.calibrator.specs.Record.{kinds, kindOf, Outcome, answered}
 use Rattle.calibrator.specs.declared.Previous.{Previous}
 use Rattle.calibrator.specs.declared.Previous.the-variants.{Nothing, Quoted}
 
@@ -42,7 +42,7 @@ rule c =
     record {
       Quote = TopOfBook;
       Last = Previous;
-      kinds = 2;
+      kinds = kinds;
       states = states c;
       mirror = mirrorOf (c .«imbalance_buckets»);
       started = isQuoted;
@@ -102,7 +102,7 @@ observed c m q = observedBy (rule c) (judge c) m q
 
 -- no last quote, zeros
 abbrev pub fresh : MicroPriceConfig → Memory Previous
-fresh c = record { last = Nothing; counts = zeros 2 (states c) }
+fresh c = record { last = Nothing; counts = zeros kinds (states c) }
 
 -- new: 1, 7
 abbrev pub made : MicroPriceConfig → Memory Previous → Outcome Previous

@@ -2,6 +2,7 @@
 use Prim.Native.Nat.{ℕ}
 use mathlib.Core.List.{List, [], _∷_}
 use lib.IntN.{ℤ}
+use lib.ListN.{getD}
 use Rattle.basics.specs.Loan.{Loan, given, final}
 use Rattle.refusals.specs.declared.Check.{Check}
 use Rattle.refusals.specs.declared.Check.the-variants.{Fine, Refused}
@@ -14,11 +15,19 @@ use Rattle.calibrator.specs.declared.Counters.{Counters}
 use Rattle.calibrator.specs.declared.Previous.{Previous}
 use Rattle.calibrator.specs.declared.Record.{Record}
 
--- the number of a kind of skip, and the counters of skips in that order
+-- the kinds of skip: how many, and the number of each
+abbrev pub kinds : ℕ
+kinds = 2
+
 abbrev pub kindOf : Skip → ℕ
 kindOf Spread = 0
 kindOf Gap = 1
 
+-- the skips of a kind
+abbrev pub skipped : Skip → Counts → ℕ
+skipped kind k = getD (k .skips) (kindOf kind) 0
+
+-- the counters of skips in the order of the numbers
 abbrev pub skipsOf : Counters → List ℕ
 skipsOf k = k .«skipped_spread_pairs» ∷ k .«skipped_gap_pairs» ∷ []
 

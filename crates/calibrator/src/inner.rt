@@ -286,7 +286,8 @@ fn zero_totals(t: &mut [i64])
     }
 }
 
-fn no_counters() -> Counters
+// Counters of a new calibrator.
+pub fn no_counters() -> Counters
     ensures { λ k. ⌜ k ≡ noCounters ⌝ }
 {
     Counters {

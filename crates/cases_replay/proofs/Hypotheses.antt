@@ -2,38 +2,26 @@
 use mathlib.Core.Path.{_≡_, refl, sym, subst}
 use mathlib.Core.Bool.{Bool, true, not, _&&_, _||_}
 use mathlib.Core.List.{List, [], _∷_, _++_}
-use Prim.Native.Nat.{ℕ, _^_}
-use native.Mathlib.Omega.{arith}
-use lib.Dec.{T, ltb}
+use Prim.Native.Nat.{ℕ}
+use lib.Dec.{T}
 use lib.ListN.{replicate}
-use borrow.Author.Tests.{ltb-true}
 use Rattle.basics.proofs.Tests.{both}
-use Rattle.config.specs.Configuration.{states}
+use Rattle.config.specs.Configuration.{states, configWords}
 use Rattle.calibrator.specs.declared.Previous.the-variants.{Quoted}
-use Rattle.image_words.specs.Words.{AllWords}
+use Rattle.image_words.proofs.Words.{areWords, words-by}
 use Rattle.image_layout.specs.Layout.{header, headerIn, previousWords}
 use Rattle.image.specs.Image.{restored, lentWrong}
-use Rattle.history.specs.Calls.{Call, quote, save, restore, ConfigWords, OwnImages, Proper, Past, newPast, historyAct, keptWith, isSome, isRefused}
+use Rattle.history.specs.Calls.{Call, quote, save, restore, ConfigWords, OwnImages, Proper, Past, newPast, historyAct, returns, isSome, isRefused}
 use Rattle.history_replay.specs.Replay.{callsFrom, callsMade, replayed, OwnCalls}
 use Rattle.cases_replay.specs.Journal.{setup, journal, start, firstPart, laterPart, between}
 
 -- ---- the proviso as a test
 
-abbrev areWords : List ℕ → Bool
-areWords [] = true
-areWords (w ∷ ws) = ltb w (2 ^ 64) && areWords ws
-
-words-by : (l : List ℕ) → areWords l ≡ true → AllWords l
-words-by [] e = tt
-words-by (w ∷ ws) e =
-    let p = both (ltb w (2 ^ 64)) (areWords ws) e in
-    (ltb-true w (2 ^ 64) (p .0), words-by ws (p .1))
-
 abbrev isProper : Past → Call → Bool
 isProper P (quote q) = areWords (previousWords (Quoted q))
 isProper P (save out) = true
 isProper P (restore b lent) =
-    (not (lentWrong (states setup) (lent .counts .tables)) && isSome (keptWith b (P .kept))) || isRefused (restored b lent .answer)
+    (not (lentWrong (states setup) (lent .counts .tables)) && isSome (returns setup P b)) || isRefused (restored b lent .answer)
 
 proper-by : (P : Past) (k : Call) → isProper P k ≡ true → Proper setup P k
 proper-by P (quote q) e = words-by (previousWords (Quoted q)) e
@@ -53,7 +41,7 @@ own-by P (k ∷ ks) e =
 -- ---- the list
 
 setup-words : ConfigWords setup
-setup-words = (omega arith, (omega arith, (omega arith, (omega arith, (omega arith, tt)))))
+setup-words = words-by (configWords setup) refl
 
 pub own-calls : OwnCalls setup start journal (replicate {A = ℕ} 17 0)
 unfolding header headerIn

@@ -5,7 +5,7 @@ use lib.ListN.{replicate, take, drop}
 use Rattle.config.specs.Configuration.{newConfig, withMinStateObservations, withMaxQuoteGapMs}
 use Rattle.config.specs.declared.MicroPriceConfig.{MicroPriceConfig}
 use Rattle.calibrator.specs.Observe.{fresh}
-use Rattle.image_layout.specs.Layout.{image}
+use Rattle.image_layout.specs.Layout.{newest, image}
 use Rattle.history_replay.specs.Replay.{Site, replayed}
 
 -- three states; an image has 328 bytes
@@ -39,7 +39,7 @@ otherSetup = withMaxQuoteGapMs setup 2000
 
 -- a new calibrator, and room for two images before one of another configuration
 abbrev pub start : Site
-start = record { memory = fresh setup; room = replicate {A = ℕ} 656 0 ++ image otherSetup (fresh otherSetup) }
+start = record { memory = fresh setup; room = replicate {A = ℕ} 656 0 ++ image newest otherSetup (fresh otherSetup) }
 
 -- the list in two parts: three calls, with the first save, and the others, on what the first part leaves
 abbrev pub firstPart : List ℕ

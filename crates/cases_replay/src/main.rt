@@ -1,6 +1,5 @@
 // Replays a list that saves, counts on, restores, is refused and goes on; a restore of another configuration is left out. Prints each answer, then the words of the two images that it saved.
 // Then a list with a call of no kind, which is not replayed.
-use calibrator::Counters;
 use calibrator::Previous;
 use calibrator::Record;
 use config::MicroPriceConfig;
@@ -132,13 +131,21 @@ fn journal() -> [u64; 102]
 fn empty() -> Record {
     Record {
         previous: Previous::Nothing,
-        counters: Counters {
-            pairs: 0,
-            skipped_spread_pairs: 0,
-            skipped_gap_pairs: 0,
-            largest_move_half_ticks: 0,
-        },
+        counters: calibrator::inner::no_counters(),
     }
+}
+
+// The words of the image of a new calibrator with a gap of 2000.
+fn other_image() -> [u64; 41] {
+    let other = setup().with_max_quote_gap_ms(2000);
+    let stay = [0; 9];
+    let moved = [0; 9];
+    let move_half_ticks = [0; 3];
+    let mut out = [0; 328];
+    image::inner::save(empty(), &stay, &moved, &move_half_ticks, other, &mut out);
+    let mut words = [0; 41];
+    image_words::get_table(&out, 0, &mut words);
+    words
 }
 
 // Numbers, each on a line.
@@ -169,9 +176,7 @@ fn main() {
     let mut room = [0; 984];
     let mut answers = [0; 17];
     let mut words = [0; 82];
-    // the image of a new calibrator with a gap of 2000; its other words are 0
-    image_words::put_table(&mut room, 656, &[3, 3, 1, 1, 1, 2000, 160, 232, 304]);
-    image_words::put_table(&mut room, 808, &[328]);
+    image_words::put_table(&mut room, 656, &other_image());
     let calls = journal();
     let made = calibrator::inner::new(
         empty(),

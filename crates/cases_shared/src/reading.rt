@@ -58,9 +58,13 @@ pub fn count_at(words: &[u64], i: usize) -> usize
 
 // The configuration of words 1 to 5.
 pub fn config_of(words: &[u64]) -> MicroPriceConfig {
-    MicroPriceConfig::new(word_at(words, 1), word_at(words, 2), word_at(words, 3))
-        .with_min_state_observations(word_at(words, 4))
-        .with_max_quote_gap_ms(word_at(words, 5))
+    let tick = word_at(words, 1);
+    let n = word_at(words, 2);
+    let s = word_at(words, 3);
+    let least = word_at(words, 4);
+    let gap = word_at(words, 5);
+    let held = [tick, n, s, least, gap];
+    config::inner::config_of(&held)
 }
 
 // The quote of five words.

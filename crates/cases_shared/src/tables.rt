@@ -2,7 +2,6 @@
 use crate::reading::count_at;
 use crate::reading::set_at;
 use crate::reading::word_at;
-use calibrator::Counters;
 use calibrator::Previous;
 use calibrator::Record;
 ghost use mathlib.Core.Path.{_≡_};
@@ -10,14 +9,11 @@ ghost use Prim.Native.Nat.{_*_, _<_, _≤_};
 
 // A record of so many pairs, before its first quote.
 pub fn record_of(pairs: u64) -> Record {
+    let mut counters = calibrator::inner::no_counters();
+    counters.pairs = pairs;
     Record {
         previous: Previous::Nothing,
-        counters: Counters {
-            pairs: pairs,
-            skipped_spread_pairs: 0,
-            skipped_gap_pairs: 0,
-            largest_move_half_ticks: 0,
-        },
+        counters,
     }
 }
 
@@ -102,7 +98,7 @@ fn moved_at(n: usize) -> usize
     requires { ⌜ n ≤ 255 ⌝ }
     ensures { λ r. ⌜ r ≤ 520360 ⌝ }
 {
-    160 + 8 * product(n, n)
+    image_layout::HEADER + 8 * product(n, n)
 }
 
 // Where its totals begin.
@@ -110,7 +106,7 @@ fn totals_at(n: usize) -> usize
     requires { ⌜ n ≤ 255 ⌝ }
     ensures { λ r. ⌜ r ≤ 1040560 ⌝ }
 {
-    160 + 16 * product(n, n)
+    image_layout::HEADER + 16 * product(n, n)
 }
 
 pub fn image_length(n: usize) -> usize
@@ -148,7 +144,7 @@ fn put_header(words: &[u64], n: usize, image: &mut [u8])
         word_at(words, 1),
         word_at(words, 4),
         word_at(words, 5),
-        160,
+        image_layout::HEADER as u64,
         moved_at(n) as u64,
         totals_at(n) as u64,
         word_at(words, 6),
@@ -178,7 +174,7 @@ pub fn put_image(
     requires { ⌜ n ≤ 255 ⌝ }
 {
     put_header(words, n, image);
-    put_table(image, 160, stay);
+    put_table(image, image_layout::HEADER, stay);
     put_table(image, moved_at(n), moved);
     put_totals(image, totals_at(n), move_half_ticks);
 }

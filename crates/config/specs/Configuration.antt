@@ -1,7 +1,10 @@
 -- A configuration: document 01, "New, and one quote".
 use Prim.Native.Nat.{ℕ, _*_, _%_}
 use mathlib.Core.Bool.{Bool, not, _&&_}
+use mathlib.Core.List.{List, [], _∷_}
 use lib.Dec.{leb, eqb}
+use lib.ListN.{length, getD}
+use Rattle.basics.specs.Lists.{sameWords}
 use Rattle.refusals.specs.Refusals.{refuseIf}
 use Rattle.refusals.specs.declared.Check.{Check}
 use Rattle.config.specs.declared.MicroPriceConfig.{MicroPriceConfig}
@@ -61,3 +64,25 @@ valid c =
 -- refusal 1
 abbrev pub checkConfig : MicroPriceConfig → Check
 checkConfig c = refuseIf (not (valid c)) 1
+
+-- ---- its words
+
+-- how many they are
+abbrev pub configLength : ℕ
+configLength = 5
+
+abbrev pub isConfig : List ℕ → Bool
+isConfig w = eqb (length w) configLength
+
+-- tick, buckets, spread states, least observations, largest gap
+abbrev pub configWords : MicroPriceConfig → List ℕ
+configWords c =
+    c .«tick_size» ∷ c .«imbalance_buckets» ∷ c .«spread_states» ∷ c .«min_state_observations» ∷ c .«max_quote_gap_ms» ∷ []
+
+-- the configuration of such words, by its constructor and setters
+abbrev pub configOf : List ℕ → MicroPriceConfig
+configOf w =
+    withMaxQuoteGapMs (withMinStateObservations (newConfig (getD w 0 0) (getD w 1 0) (getD w 2 0)) (getD w 3 0)) (getD w 4 0)
+
+abbrev pub sameConfig : MicroPriceConfig → MicroPriceConfig → Bool
+sameConfig c d = sameWords (configWords c) (configWords d)

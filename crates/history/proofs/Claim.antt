@@ -5,7 +5,9 @@ use mathlib.Core.Bool.{Bool, true, false, not, _&&_, _||_}
 use mathlib.Core.List.{List, [], _∷_, _++_}
 use mathlib.Core.Option.{Option, none, some}
 use lib.Dec.{T}
+use Rattle.basics.specs.Lists.{sameWords}
 use lib.ListN.{length}
+use Rattle.basics.proofs.Lists.{same-equal}
 use Rattle.refusals.specs.Refusals.{refuseIf, firstOf}
 use Rattle.refusals.specs.declared.Check.{Check}
 use Rattle.refusals.specs.declared.Check.the-variants.{Fine, Refused}
@@ -16,6 +18,8 @@ use Rattle.config.specs.declared.MicroPriceConfig.{MicroPriceConfig}
 use Rattle.config.proofs.Known.{valid-known}
 use Rattle.quotes.specs.Quotes.{checkQuote}
 use Rattle.quotes.specs.declared.TopOfBook.{TopOfBook}
+use Rattle.tally.specs.Balance.{Sized}
+use Rattle.tally.specs.Events.{after}
 use Rattle.tally.specs.Limits.{overLimit}
 use Rattle.tally.specs.Rules.{Memory, step}
 use Rattle.tally.proofs.Step.{step-memory}
@@ -26,12 +30,11 @@ use Rattle.calibrator.specs.Observe.{rule, fresh, judge, refusalBy, earlier}
 use Rattle.calibrator.specs.declared.Previous.{Previous}
 use Rattle.calibrator.specs.declared.Previous.the-variants.{Nothing, Quoted}
 use Rattle.calibrator.proofs.Step.{rule-lawful}
-use Rattle.image_layout.specs.Layout.{image, previousWords, sameWords}
-use Rattle.image_layout.proofs.Headers.{same-equal}
+use Rattle.image_layout.specs.Layout.{newest, image, previousWords}
 use Rattle.image.specs.Image.{savedUnless, saveRefusal, endRestore, Taken, restored, lentWrong}
 use Rattle.image.specs.declared.Restored.{Restored}
 use Rattle.image.specs.declared.Restored.the-variants as Restored
-use Rattle.history.specs.Calls.{Call, quote, save, restore, observes, saves, restores, Acted, acted, afterRestore, act, run, History, newHistory, gains, historyMemory, historyRefusal, Kept, Past, newPast, orElse, keptWith, HistoryActed, historyActed, historyQuote, historySave, historyRestore, checkOutputLength, historyAct, historyRun, isSome, isRefused, Proper, OwnImages, ConfigWords}
+use Rattle.history.specs.Calls.{Call, quote, save, restore, observes, saves, restores, Acted, acted, afterRestore, act, run, History, begins, newHistory, gains, historyMemory, historyRefusal, Kept, Past, newPast, orElse, keptWith, returns, HistoryActed, historyActed, historyQuote, historySave, historyRestore, checkOutputLength, historyAct, historyRun, isSome, isRefused, Proper, OwnImages, ConfigWords}
 use Rattle.history.proofs.Holds.{Holds, new-holds, step-holds, quote-first, save-first, image-back}
 
 -- the history kept, if any, has the property
@@ -45,18 +48,33 @@ either-kept Q true G none newer older = newer refl
 either-kept Q true G (some K) newer older = let this : Q G = newer refl in search
 either-kept Q false G o newer older = older
 
+-- the history that begins at a memory has that memory
+pub begins-memory : (c : MicroPriceConfig) (m : Memory Previous) → Sized (rule c .kinds) (states c) (m .counts) → historyMemory c (begins m) ≡ m
+begins-memory c m sized = go (m .last)
+  where
+    counts-are : after (rule c .kinds) (states c) (rule c .mirror) (m .counts) [] ≡ m .counts
+    counts-are = after-none (rule c .kinds) (states c) (rule c .mirror) (m .counts) sized
+
+    go : (l : Previous) → historyMemory c (begins (record { last = l; counts = m .counts })) ≡ record { last = l; counts = m .counts }
+    go Nothing = λ i. record { last = Nothing; counts = counts-are i }
+    go (Quoted q) = λ i. record { last = Quoted q; counts = counts-are i }
+
 module _ (c : MicroPriceConfig) (e : valid c ≡ true) (fits : ConfigWords c) where
   v : Valid c
   v = valid-known c e
 
-  -- its record and tables hold
-  abbrev Sound : History → Type 0
-  Sound H = Holds c (historyMemory c H)
+  -- what is known of a history: what it starts from has the right sizes, and its record and tables hold
+  pub record Sound (H : History) : Type 0 where
+    pub start-sized : Sized (rule c .kinds) (states c) (H .start)
+    pub holds : Holds c (historyMemory c H)
+
+  pub begins-sound : (m : Memory Previous) → Holds c m → Sound (begins m)
+  begins-sound m h = record { start-sized = h .sized; holds = subst (Holds c) (sym (begins-memory c m (h .sized))) h }
 
   -- each kept image is that of the history kept with it
   abbrev AllKept : List Kept → Type 0
   AllKept [] = Unit {0}
-  AllKept (k ∷ ks) = (k .bytes ≡ image c (historyMemory c (k .history))) × Sound (k .history) × AllKept ks
+  AllKept (k ∷ ks) = (k .bytes ≡ image newest c (historyMemory c (k .history))) × Sound (k .history) × AllKept ks
 
   record Good (P : Past) : Type 0 where
     now-sound : Sound (P .now)
@@ -74,7 +92,7 @@ module _ (c : MicroPriceConfig) (e : valid c ≡ true) (fits : ConfigWords c) wh
 
   pub refusal-is : (H : History) → Sound H → (q : TopOfBook) → refusalBy (rule c) (judge c) (historyMemory c H) q ≡ historyRefusal c H q
   refusal-is H h q =
-      quote-first c e (historyMemory c H) h q
+      quote-first c e (historyMemory c H) (h .holds) q
       ∙ ap (λ (m : Memory Previous). firstOf (firstOf (checkQuote c q) (refuseIf (earlier (historyMemory c H .last) q) 5)) (refuseIf (overLimit (m .counts)) 6))
       (grown H q)
 
@@ -85,7 +103,10 @@ module _ (c : MicroPriceConfig) (e : valid c ≡ true) (fits : ConfigWords c) wh
       let g = first-fine (checkQuote c q) (refuseIf (earlier (historyMemory c H .last) q) 5) (f .0) in
       let inside : overLimit (step (rule c) (historyMemory c H) q .counts) ≡ false =
       ap (λ (m : Memory Previous). overLimit (m .counts)) (grown H q) ∙ if-fine (overLimit (historyMemory c (gains H q) .counts)) 6 (f .1) in
-      subst (Holds c) (grown H q) (step-holds c v (historyMemory c H) h q words (g .0) inside)
+      record {
+        start-sized = h .start-sized;
+        holds = subst (Holds c) (grown H q) (step-holds c v (historyMemory c H) (h .holds) q words (g .0) inside);
+      }
 
   quote-agrees : (P : Past) → Good P → (q : TopOfBook) → AllWords (previousWords (Quoted q))
       → Agrees (act c (historyMemory c (P .now)) (quote q)) (historyAct c P (quote q))
@@ -112,12 +133,12 @@ module _ (c : MicroPriceConfig) (e : valid c ≡ true) (fits : ConfigWords c) wh
   -- ---- a save
 
   save-agrees : (P : Past) → Good P → (out : List ℕ) → Agrees (act c (historyMemory c (P .now)) (save out)) (historyAct c P (save out))
-  save-agrees P G out = go (saveRefusal c m (length out)) (checkOutputLength c out) (save-first c e m (G .now-sound) (length out))
+  save-agrees P G out = go (saveRefusal c m (length out)) (checkOutputLength c out) (save-first c e m (G .now-sound .holds) (length out))
     where
       m : Memory Previous
       m = historyMemory c (P .now)
 
-      go : (k k′ : Check) → k ≡ k′ → Agrees (acted (saves (savedUnless k out (image c m))) m) (historySave k′ P out (image c m))
+      go : (k k′ : Check) → k ≡ k′ → Agrees (acted (saves (savedUnless k out (image newest c m))) m) (historySave k′ P out (image newest c m))
       go k Fine f =
           rw f
           (record {
@@ -131,7 +152,7 @@ module _ (c : MicroPriceConfig) (e : valid c ≡ true) (fits : ConfigWords c) wh
 
   record IsImage (b : List ℕ) (H : History) : Type 0 where
     sound : Sound H
-    is : b ≡ image c (historyMemory c H)
+    is : b ≡ image newest c (historyMemory c H)
 
   kept-is : (b : List ℕ) (ks : List Kept) → AllKept ks → IfKept (IsImage b) (keptWith b ks)
   kept-is b [] a = tt
@@ -140,9 +161,13 @@ module _ (c : MicroPriceConfig) (e : valid c ≡ true) (fits : ConfigWords c) wh
       (λ same. record { sound = a .1; is = same-equal b (k .bytes) same ∙ a .0 })
       (kept-is b ks (a .2))
 
+  -- what a restore brings back has the image that is restored
+  returned-is : (P : Past) → Good P → (b : List ℕ) → IfKept (IsImage b) (returns c P b)
+  returned-is P G b = kept-is b (P .kept) (G .all-kept)
+
   restore-agrees : (P : Past) → Good P → (b : List ℕ) (lent : Memory Previous) → Proper c P (restore b lent)
       → Agrees (act c (historyMemory c (P .now)) (restore b lent)) (historyAct c P (restore b lent))
-  restore-agrees P G b lent p = go (restored b lent) refl (lentWrong (states c) (lent .counts .tables)) refl (keptWith b (P .kept)) refl p
+  restore-agrees P G b lent p = go (restored b lent) refl (lentWrong (states c) (lent .counts .tables)) refl (returns c P b) refl p
     where
       m : Memory Previous
       m = historyMemory c (P .now)
@@ -151,15 +176,15 @@ module _ (c : MicroPriceConfig) (e : valid c ≡ true) (fits : ConfigWords c) wh
       other (Restored.Config d) filled f = absurd f
       other (Restored.Refused r) filled f = record { answers = refl; memories = refl; good = G }
 
-      go : (t : Taken) → restored b lent ≡ t → (w : Bool) → lentWrong (states c) (lent .counts .tables) ≡ w → (o : Option History) → keptWith b (P .kept) ≡ o
+      go : (t : Taken) → restored b lent ≡ t → (w : Bool) → lentWrong (states c) (lent .counts .tables) ≡ w → (o : Option History) → returns c P b ≡ o
           → T ((not w && isSome o) || isRefused (t .answer))
           → Agrees (acted (restores (t .answer)) (afterRestore (t .answer) m (t .left))) (historyRestore c P (t .answer) w o)
       go t et true ew o eo f = other (t .answer) (t .left) f
       go t et false ew none eo f = other (t .answer) (t .left) f
       go t et false ew (some H) eo f =
-          let r : IsImage b H = subst (IfKept (IsImage b)) eo (kept-is b (P .kept) (G .all-kept)) in
+          let r : IsImage b H = subst (IfKept (IsImage b)) eo (returned-is P G b) in
           let back : t ≡ endRestore (Restored.Config c) (historyMemory c H) =
-          sym et ∙ ap (λ (x : List ℕ). restored x lent) (r .is) ∙ image-back c e fits (historyMemory c H) (r .sound) lent ew in
+          sym et ∙ ap (λ (x : List ℕ). restored x lent) (r .is) ∙ image-back c e fits (historyMemory c H) (r .sound .holds) lent ew in
           rw back
           (record {
             answers = refl;
@@ -177,10 +202,10 @@ module _ (c : MicroPriceConfig) (e : valid c ≡ true) (fits : ConfigWords c) wh
   pub record Claim (P : Past) (ks : List Call) : Type 0 where
     pub answers : run c (historyMemory c (P .now)) ks .answers ≡ historyRun c P ks .answers
     pub memories : run c (historyMemory c (P .now)) ks .left ≡ historyMemory c (historyRun c P ks .past .now)
-    pub holds : Holds c (historyMemory c (historyRun c P ks .past .now))
+    pub sound : Sound (historyRun c P ks .past .now)
 
   from-here : (ks : List Call) (P : Past) → Good P → OwnImages c P ks → Claim P ks
-  from-here [] P G o = record { answers = refl; memories = refl; holds = G .now-sound }
+  from-here [] P G o = record { answers = refl; memories = refl; sound = G .now-sound }
   from-here (k ∷ ks) P G o =
       let s = call-agrees P G k (o .0) in
       let rest = from-here ks (historyAct c P k .past) (s .good) (o .1) in
@@ -188,19 +213,14 @@ module _ (c : MicroPriceConfig) (e : valid c ≡ true) (fits : ConfigWords c) wh
         answers =
             λ i. s .answers i ∷ (ap (λ (m : Memory Previous). run c m ks .answers) (s .memories) ∙ rest .answers) i;
         memories = ap (λ (m : Memory Previous). run c m ks .left) (s .memories) ∙ rest .memories;
-        holds = rest .holds;
+        sound = rest .sound;
       }
 
   pub empty-is : historyMemory c (newHistory c) ≡ fresh c
-  empty-is =
-      λ i.
-      record {
-        last = Nothing;
-        counts = after-none (rule c .kinds) (states c) (rule c .mirror) (fresh c .counts) (new-holds c v .sized) i;
-      }
+  empty-is = begins-memory c (fresh c) (new-holds c v .sized)
 
   new-good : Good (newPast c)
-  new-good = record { now-sound = subst (Holds c) (sym empty-is) (new-holds c v); all-kept = tt }
+  new-good = record { now-sound = begins-sound (fresh c) (new-holds c v); all-kept = tt }
 
   -- every list of calls on a new calibrator
   pub list-claim : (ks : List Call) → OwnImages c (newPast c) ks → Claim (newPast c) ks
@@ -239,6 +259,9 @@ module _ (c : MicroPriceConfig) where
   found-new b [] a = tt
   found-new b (k ∷ ks) a = either-kept StartsNew (sameWords b (k .bytes)) (k .history) (keptWith b ks) (λ same. a .0) (found-new b ks (a .1))
 
+  returned-new : (P : Past) → New P → (b : List ℕ) → IfKept StartsNew (returns c P b)
+  returned-new P n b = found-new b (P .kept) (n .kept-new)
+
   act-new : (P : Past) → New P → (k : Call) → New (historyAct c P k .past)
   act-new P n (quote q) = go (historyRefusal c (P .now) q)
     where
@@ -247,15 +270,15 @@ module _ (c : MicroPriceConfig) where
       go (Refused r) = n
   act-new P n (save out) = go (checkOutputLength c out)
     where
-      go : (k : Check) → New (historySave k P out (image c (historyMemory c (P .now))) .past)
+      go : (k : Check) → New (historySave k P out (image newest c (historyMemory c (P .now))) .past)
       go Fine = record { now-new = n .now-new; kept-new = (n .now-new, n .kept-new) }
       go (Refused r) = n
-  act-new P n (restore b lent) = go (lentWrong (states c) (lent .counts .tables)) (keptWith b (P .kept)) refl
+  act-new P n (restore b lent) = go (lentWrong (states c) (lent .counts .tables)) (returns c P b) refl
     where
-      go : (w : Bool) (o : Option History) → keptWith b (P .kept) ≡ o → New (historyRestore c P (restored b lent .answer) w o .past)
+      go : (w : Bool) (o : Option History) → returns c P b ≡ o → New (historyRestore c P (restored b lent .answer) w o .past)
       go true o f = n
       go false none f = n
-      go false (some H) f = record { now-new = subst (IfKept StartsNew) f (found-new b (P .kept) (n .kept-new)); kept-new = n .kept-new }
+      go false (some H) f = record { now-new = subst (IfKept StartsNew) f (returned-new P n b); kept-new = n .kept-new }
 
   all-new : (ks : List Call) (P : Past) → New P → StartsNew (historyRun c P ks .past .now)
   all-new [] P n = n .now-new

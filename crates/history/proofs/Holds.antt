@@ -27,6 +27,7 @@ use Rattle.quotes.specs.Quotes.{checkQuote}
 use Rattle.quotes.specs.States.{mirrorOf}
 use Rattle.quotes.specs.declared.Neighbours.{Neighbours}
 use Rattle.quotes.specs.declared.Neighbours.the-variants.{Skipped, Counted}
+use Rattle.quotes.specs.declared.Skip.the-variants.{Gap, Spread}
 use Rattle.quotes.specs.declared.TopOfBook.{TopOfBook}
 use Rattle.quotes.proofs.Known.{fine-known}
 use Rattle.quotes.proofs.Pairs.{counted-made}
@@ -40,12 +41,13 @@ use Rattle.tally.proofs.Step.{entered-after}
 use Rattle.tally.proofs.Balance.{after-none, after-sized, zeros-sized, zeros-balanced, after-balanced}
 use Rattle.tally.proofs.Overs.{Within, within-known, zeros-within, over-touched}
 use Rattle.count_check.specs.Mirrors.{sameTotal, storedOver, totalMirrored, cellMirrored, rowMirrored, checkState, isTwice, checkCounts}
+use Rattle.calibrator.specs.Record.{kindOf, skipped}
 use Rattle.calibrator.specs.Observe.{rule, fresh, eventFrom, eventOf, checkMemory, broken, refuses, judge, refusalBy, earlier}
 use Rattle.calibrator.specs.declared.Previous.{Previous}
 use Rattle.calibrator.specs.declared.Previous.the-variants.{Nothing, Quoted}
 use Rattle.calibrator.proofs.Memories.{recordOf, record-back}
 use Rattle.calibrator.proofs.Step.{rule-lawful}
-use Rattle.image_layout.specs.Layout.{imageLength, previousWords, header, body, image}
+use Rattle.image_layout.specs.Layout.{newest, imageLength, previousWords, header, body, image}
 use Rattle.image.specs.Image.{saveRefusal, saved, savedUnless, endRestore, restored, lentWrong}
 use Rattle.image.specs.declared.Restored.the-variants.{Config}
 use Rattle.image.proofs.Round.{restored-saved}
@@ -184,23 +186,22 @@ module _ (c : MicroPriceConfig) (e : valid c ≡ true) (m : Memory Previous) (h 
   quote-first q = rw (memory-fine, h .sound, touched-is c v m h q)
 
   -- a save only by its output's length
-  pub save-first : (long : ℕ) → saveRefusal c m long ≡ refuseIf (not (eqb long (imageLength c))) 7
+  pub save-first : (long : ℕ) → saveRefusal c m long ≡ refuseIf (not (eqb long (imageLength newest c))) 7
   save-first long =
       rw (memory-fine, h .sound, check-fine (states c) (mirrorOf (c .«imbalance_buckets»)) (m .counts) (h .balanced) (h .within))
-      (first-last (refuseIf (not (eqb long (imageLength c))) 7))
+      (first-last (refuseIf (not (eqb long (imageLength newest c))) 7))
 
-  pub save-image : (out : List ℕ) → length out ≡ imageLength c → saved c m out ≡ savedUnless Fine out (image c m)
+  pub save-image : (out : List ℕ) → length out ≡ imageLength newest c → saved c m out ≡ savedUnless Fine out (image newest c m)
   save-image out long =
-      ap (λ (k : Check). savedUnless k out (image c m))
+      ap (λ (k : Check). savedUnless k out (image newest c m))
       (save-first (length out) ∙ ap (λ (t : Bool). refuseIf (not t) 7) (eq-eqb _ _ long))
 
 -- ---- its words fit, and its image brings it back
 
-counters-fit : (l : List ℕ) → any overCounter l ≡ false → AllWords l
-counters-fit [] e = tt
-counters-fit (x ∷ l) e =
-    let p = neither (overCounter x) (any overCounter l) e in
-    (omega (arith, ltb-false (2 ^ 52) x (p .0)), counters-fit l (p .1))
+counters-fit : (l : List ℕ) → any overCounter l ≡ false → (k : ℕ) → getD l k 0 < 2 ^ 64
+counters-fit [] e k = omega arith
+counters-fit (x ∷ l) e zero = omega (arith, ltb-false (2 ^ 52) x (neither (overCounter x) (any overCounter l) e .0))
+counters-fit (x ∷ l) e (suc k) = counters-fit l (neither (overCounter x) (any overCounter l) e .1) k
 
 cells-within : (l : List ℕ) → any overCell l ≡ false → AllWords l
 cells-within [] e = tt
@@ -222,11 +223,12 @@ module _ (c : MicroPriceConfig) (e : valid c ≡ true) (fits : ConfigWords c) (m
   w : Within (m .counts)
   w = within-known (m .counts) (h .within)
 
-  record-fits : AllWords (m .counts .pairs ∷ (m .counts .skips ++ (m .counts .largest ∷ [])))
-  record-fits = (
-    omega (arith, ltb-false (2 ^ 52) (m .counts .pairs) (w .pairs-in)),
-    all-append (m .counts .skips) (m .counts .largest ∷ []) (counters-fit (m .counts .skips) (w .skips-in)) (h .largest-fits, tt),
-  )
+  counts-fit : AllWords (m .counts .pairs ∷ skipped Spread (m .counts) ∷ skipped Gap (m .counts) ∷ m .counts .largest ∷ imageLength newest c ∷ [])
+  counts-fit =
+      let N = valid-known c e .states-most in
+      let C : states c * states c ≤ 65536 = mul-le-mul N N in
+      let skips = counters-fit (m .counts .skips) (w .skips-in) in
+      (omega (arith, ltb-false (2 ^ 52) (m .counts .pairs) (w .pairs-in)), (skips (kindOf Spread), (skips (kindOf Gap), (h .largest-fits, (omega arith, tt)))))
 
   body-fits : AllWords (body (m .counts .tables))
   body-fits =
@@ -235,7 +237,7 @@ module _ (c : MicroPriceConfig) (e : valid c ≡ true) (fits : ConfigWords c) (m
       (all-append (m .counts .tables .moved) (map twos (m .counts .tables .totals)) (cells-within (m .counts .tables .moved) (w .moved-in))
       (totals-within (m .counts .tables .totals) (w .totals-in)))
 
-  header-fits : AllWords (header c (m .last) (m .counts))
+  header-fits : AllWords (header newest c (m .last) (m .counts))
   unfolding header
   header-fits =
       let N = valid-known c e .states-most in
@@ -257,10 +259,7 @@ module _ (c : MicroPriceConfig) (e : valid c ≡ true) (fits : ConfigWords c) (m
                       omega arith,
                       (
                         omega arith,
-                        all-append (previousWords (m .last) ++ (m .counts .pairs ∷ (m .counts .skips ++ (m .counts .largest ∷ [])))) (imageLength c ∷ [])
-                            (all-append (previousWords (m .last)) (m .counts .pairs ∷ (m .counts .skips ++ (m .counts .largest ∷ []))) (h .last-fits)
-                            record-fits)
-                            (omega arith, tt),
+                        all-append (previousWords (m .last)) _ (h .last-fits) counts-fit,
                       ),
                     ),
                   ),
@@ -271,19 +270,19 @@ module _ (c : MicroPriceConfig) (e : valid c ≡ true) (fits : ConfigWords c) (m
         ),
       )
 
-  words-fit : AllWords (header c (m .last) (m .counts) ++ body (m .counts .tables))
-  words-fit = all-append (header c (m .last) (m .counts)) (body (m .counts .tables)) header-fits body-fits
+  words-fit : AllWords (header newest c (m .last) (m .counts) ++ body (m .counts .tables))
+  words-fit = all-append (header newest c (m .last) (m .counts)) (body (m .counts .tables)) header-fits body-fits
 
   -- its image, restored into any memory of the right lengths, gives it back
-  pub image-back : (lent : Memory Previous) → lentWrong (states c) (lent .counts .tables) ≡ false → restored (image c m) lent ≡ endRestore (Config c) m
+  pub image-back : (lent : Memory Previous) → lentWrong (states c) (lent .counts .tables) ≡ false → restored (image newest c m) lent ≡ endRestore (Config c) m
   image-back lent sizes =
-      let out : List ℕ = replicate (imageLength c) 0 in
+      let out : List ℕ = replicate (imageLength newest c) 0 in
       let is = record-back c m (h .sized .skip-kinds) in
-      let k = save-image c e m h out (length-replicate (imageLength c) 0) in
+      let k = save-image c e m h out (length-replicate (imageLength newest c) 0) in
       let r = recordOf m in
       let t = m .counts .tables in
       let round = restored-saved c r (t .stay) (t .moved) (t .totals) out lent
-      (subst (λ (x : Memory Previous). AllWords (header c (x .last) (x .counts) ++ body (x .counts .tables))) (sym is) words-fit) sizes
+      (subst (λ (x : Memory Previous). AllWords (header newest c (x .last) (x .counts) ++ body (x .counts .tables))) (sym is) words-fit) sizes
       (ap (λ (x : Memory Previous). saved c x out .answer) is ∙ ap (λ x. x .answer) k) in
       sym (ap (λ (x : Memory Previous). restored (saved c x out .output) lent) is ∙ ap (λ x. restored (x .output) lent) k)
       ∙ round

@@ -1,27 +1,29 @@
 -- A list that tells the history last kept with an image from the first: two histories have one image, and its restore returns to the second.
-use Prim.Native.Nat.{ℕ, _<_}
+-- At the end, histories that begin at a memory.
+use Prim.Native.Nat.{ℕ}
 use mathlib.Core.Path.{_≡_, refl, ap}
 use mathlib.Core.List.{List, [], _∷_, _++_, map}
 use native.Mathlib.Omega.{arith}
 use lib.IntN.{pos}
 use lib.ListN.{replicate}
 use Rattle.basics.specs.Lists.{sum}
-use Rattle.image_words.specs.Words.{AllWords}
+use Rattle.image_words.proofs.Words.{words-by}
 use Rattle.refusals.specs.Refusals.{refusal}
 use Rattle.refusals.specs.declared.Check.the-variants as Check
-use Rattle.config.specs.Configuration.{newConfig}
+use Rattle.config.specs.Configuration.{newConfig, configWords}
 use Rattle.config.specs.declared.MicroPriceConfig.{MicroPriceConfig}
 use Rattle.quotes.specs.declared.TopOfBook.{TopOfBook}
 use Rattle.tally.specs.Entries.{tables}
 use Rattle.tally.specs.Events.{zeros}
 use Rattle.tally.specs.Rules.{Memory}
+use Rattle.calibrator.specs.Record.{kinds}
 use Rattle.calibrator.specs.Observe.{fresh}
 use Rattle.calibrator.specs.declared.Previous.{Previous}
 use Rattle.calibrator.specs.declared.Previous.the-variants.{Nothing, Quoted}
-use Rattle.image_layout.specs.Layout.{header, headerIn, imageLength, image, previousWords}
+use Rattle.image_layout.specs.Layout.{newest, header, headerIn, imageLength, image, previousWords}
 use Rattle.image.specs.Image.{endSave}
 use Rattle.image.specs.declared.Restored.the-variants as Restored
-use Rattle.history.specs.Calls.{Call, quote, save, restore, observes, saves, restores, run, History, newHistory, historyMemory, newPast, OwnImages, ConfigWords}
+use Rattle.history.specs.Calls.{Call, quote, save, restore, observes, saves, restores, run, History, begins, newHistory, gains, historyMemory, newPast, OwnImages, ConfigWords}
 use Rattle.history.specs.Demand.{historyOf, Demand3}
 use Rattle.history.proofs.Demand.{demand-3}
 
@@ -42,7 +44,7 @@ abbrev pub second-history : History
 second-history = record { start = fresh three-states .counts; quotes = even-quote 0 6 ∷ even-quote 1 5 ∷ [] }
 
 abbrev pub imageOf : History → List ℕ
-imageOf H = image three-states (historyMemory three-states H)
+imageOf H = image newest three-states (historyMemory three-states H)
 
 abbrev pub empty-image : List ℕ
 empty-image = imageOf (newHistory three-states)
@@ -51,7 +53,7 @@ abbrev pub first-image : List ℕ
 first-image = imageOf first-history
 
 abbrev pub empty-output : List ℕ
-empty-output = replicate (imageLength three-states) 0
+empty-output = replicate (imageLength newest three-states) 0
 
 -- other memory for a restore, of the right lengths: a record and tables of sevens
 abbrev pub sevens : Memory Previous
@@ -61,7 +63,7 @@ sevens =
       counts =
           record {
             pairs = 7;
-            skips = 7 ∷ 7 ∷ [];
+            skips = replicate kinds 7;
             largest = 7;
             tables = tables (replicate 9 7) (replicate 9 7) (replicate 3 (pos 7));
           };
@@ -69,7 +71,7 @@ sevens =
 
 -- tables of two states: wrong lengths
 abbrev pub two-states : Memory Previous
-two-states = record { last = Nothing; counts = zeros 2 2 }
+two-states = record { last = Nothing; counts = zeros kinds 2 }
 
 -- new and the first history are saved; new is restored, and the second history is gained
 abbrev pub before-second-save : List Call
@@ -123,18 +125,15 @@ answers-are = refl
 
 -- ---- the hypotheses of demand 3 and of its restore-returns are met
 
-words-fit-at : (time size : ℕ) → time < 10 → size < 10 → AllWords (previousWords (Quoted (even-quote time size)))
-words-fit-at time size t x = (omega arith, (omega arith, (omega arith, (omega arith, (omega arith, (omega arith, tt))))))
-
 pub returning-words : ConfigWords three-states
-returning-words = (omega arith, (omega arith, (omega arith, (omega arith, (omega arith, tt)))))
+returning-words = words-by (configWords three-states) refl
 
 pub returning-own : OwnImages three-states (newPast three-states) returning-calls
 unfolding header headerIn
 returning-own =
-    let five = words-fit-at 0 5 (omega arith) (omega arith) in
-    let six = words-fit-at 0 6 (omega arith) (omega arith) in
-    let last = words-fit-at 1 5 (omega arith) (omega arith) in
+    let five = words-by (previousWords (Quoted (even-quote 0 5))) refl in
+    let six = words-by (previousWords (Quoted (even-quote 0 6))) refl in
+    let last = words-by (previousWords (Quoted (even-quote 1 5))) refl in
     (tt, (five, (last, (tt, (tt, (six, (last, (tt, (tt, (tt, (tt, tt)))))))))))
 
 pub returning-demand : Demand3 three-states returning-calls
@@ -143,3 +142,14 @@ returning-demand = demand-3 three-states refl returning-words returning-calls re
 pub returned-to-save : historyOf three-states returning-calls ≡ historyOf three-states before-second-save
 unfolding header headerIn
 returned-to-save = returning-demand .restore-returns before-second-save empty-output refused-calls first-image sevens refl refl refl refl refl
+
+-- ---- a history that begins at a memory with counts and a last quote
+
+pub begins-at-sevens : historyMemory three-states (begins sevens) ≡ sevens
+begins-at-sevens = refl
+
+-- a quote more makes a pair with that last quote, as in the history whose memory it was
+pub begun-goes-on :
+    historyMemory three-states (gains (begins (historyMemory three-states first-history)) (even-quote 2 5))
+    ≡ historyMemory three-states (gains first-history (even-quote 2 5))
+begun-goes-on = refl

@@ -21,18 +21,19 @@ use Rattle.config.specs.Configuration.{states}
 use Rattle.config.specs.declared.MicroPriceConfig.{MicroPriceConfig}
 use Rattle.quotes.specs.States.{mirrorOf}
 use Rattle.tally.specs.Balance.{Sized, Balanced}
-use Rattle.tally.specs.Entries.{overCell, overTotal}
+use Rattle.tally.specs.Entries.{Tables, overCell, overTotal}
 use Rattle.tally.specs.Events.{Counts}
 use Rattle.tally.specs.Limits.{overCounter, overLimit}
 use Rattle.tally.specs.Rules.{Memory}
 use Rattle.count_check.specs.Mirrors.{sameTotal, storedOver, totalMirrored, cellsAlike, cellMirrored, rowMirrored, checkState, isTwice, checkCounts}
 use Rattle.count_check.proofs.Walks.{all-at}
+use Rattle.calibrator.specs.Record.{kinds}
 use Rattle.calibrator.specs.declared.Previous.{Previous}
 use Rattle.calibrator.specs.declared.Previous.the-variants.{Nothing, Quoted}
-use Rattle.image_layout.specs.Layout.{word, previousWords, quoteIn, previousIn, configIn, memoryIn}
+use Rattle.image_layout.specs.Layout.{oldest, headerLength, word, previousWords, formIn, quoteIn, previousIn, configIn, memoryIn}
 use Rattle.image.specs.Image.{takenUnless, restored, restoreRefusal}
 use Rattle.image.specs.declared.Restored.the-variants as Restored
-use Rattle.image.proofs.Judged.{restore-known}
+use Rattle.image.proofs.Judged.{Restorable, restore-known}
 use Rattle.history.proofs.Holds.{Holds}
 
 -- ---- counts that the count check does not refuse
@@ -103,25 +104,25 @@ module _ (N : ℕ) (mirror : ℕ → ℕ) (k : Counts) (fine : checkCounts N mir
 
 -- ---- what an image holds
 
-module _ (b : List ℕ) (bytes : AllBytes b) where
-  word-fits : 160 ≤ length b → (k : ℕ) → k < 20 → word b k < 2 ^ 64
-  word-fits long k h =
+module _ (b : List ℕ) (bytes : AllBytes b) (there : headerLength oldest ≤ length b) where
+  word-fits : (k : ℕ) → k < oldest → word b k < 2 ^ 64
+  word-fits k h =
       words-fit 1 (drop (8 * k) b) (bytes-drop (8 * k) b bytes) (rw (length-drop (8 * k) b) (omega arith)) .0
 
-  previous-fits : 160 ≤ length b → AllWords (previousWords (previousIn b))
-  previous-fits long = go (eqb (word b 9) 1)
+  previous-fits : AllWords (previousWords (previousIn b))
+  previous-fits = go (eqb (word b 9) 1)
     where
-      w : (k : ℕ) → k < 20 → word b k < 2 ^ 64
-      w = word-fits long
+      w : (k : ℕ) → k < oldest → word b k < 2 ^ 64
+      w = word-fits
 
       go : (t : Bool) → AllWords (previousWords (cond t (Quoted (quoteIn b)) Nothing))
       go true = (omega arith, (w 10 (omega arith), (w 11 (omega arith), (w 12 (omega arith), (w 13 (omega arith), (w 14 (omega arith), tt))))))
       go false = (omega arith, (omega arith, (omega arith, (omega arith, (omega arith, (omega arith, tt))))))
 
-tables-sized : (b : List ℕ) → Sized 2 (states (configIn b)) (memoryIn b .counts)
-tables-sized b =
-    let N : ℕ = states (configIn b) in
-    let B : List ℕ = drop 160 b in
+tables-sized : (form : ℕ) (b : List ℕ) → Sized kinds (states (configIn form b)) (memoryIn form b .counts)
+tables-sized form b =
+    let N : ℕ = states (configIn form b) in
+    let B : List ℕ = drop (headerLength form) b in
     record {
       skip-kinds = refl;
       stay-cells = length-words (N * N) B;
@@ -130,8 +131,22 @@ tables-sized b =
           length-map (wordsOf N (drop (16 * (N * N)) B)) untwos ∙ length-words N (drop (16 * (N * N)) B);
     }
 
+-- what a form that restore accepts holds
+held-holds : (form : ℕ) (b : List ℕ) (t : Tables) → AllBytes b → Restorable form b t → Holds (configIn form b) (memoryIn form b)
+held-holds form b t bytes k =
+    let N : ℕ = states (configIn form b) in
+    let mirror : ℕ → ℕ = mirrorOf (configIn form b .«imbalance_buckets») in
+    record {
+      sized = tables-sized form b;
+      balanced = check-balanced N mirror (memoryIn form b .counts) (k .mirrored);
+      within = check-within N mirror (memoryIn form b .counts) (k .mirrored);
+      sound = k .sound;
+      last-fits = previous-fits b bytes (k .header-there);
+      largest-fits = word-fits b bytes (k .header-there) 18 (omega arith);
+    }
+
 taken-known : (k : Check) (b : List ℕ) (m : Memory Previous) (c : MicroPriceConfig) → takenUnless k b m .answer ≡ Restored.Config c
-    → (k ≡ Fine) × (configIn b ≡ c) × (memoryIn b ≡ takenUnless k b m .left)
+    → (k ≡ Fine) × (configIn (formIn b) b ≡ c) × (memoryIn (formIn b) b ≡ takenUnless k b m .left)
 taken-known Fine b m c e = (refl, cc, refl)
 taken-known (Refused r) b m c e = absurd (zero-not-one cc)
 
@@ -139,15 +154,5 @@ module _ (b : List ℕ) (bytes : AllBytes b) (m : Memory Previous) (c : MicroPri
   pub restored-holds : Holds c (restored b m .left)
   restored-holds =
       let f = taken-known (restoreRefusal b (m .counts .tables)) b m c e in
-      let k = restore-known b (m .counts .tables) (f .0) in
-      let N : ℕ = states (configIn b) in
-      let mirror : ℕ → ℕ = mirrorOf (configIn b .«imbalance_buckets») in
-      let holds : Holds (configIn b) (memoryIn b) = record {
-        sized = tables-sized b;
-        balanced = check-balanced N mirror (memoryIn b .counts) (k .mirrored);
-        within = check-within N mirror (memoryIn b .counts) (k .mirrored);
-        sound = k .sound;
-        last-fits = previous-fits b bytes (k .header-there);
-        largest-fits = word-fits b bytes (k .header-there) 18 (omega arith);
-      } in
-      subst (Holds c) (f .2) (subst (λ (d : MicroPriceConfig). Holds d (memoryIn b)) (f .1) holds)
+      let holds = held-holds (formIn b) b (m .counts .tables) bytes (restore-known b (m .counts .tables) (f .0)) in
+      subst (Holds c) (f .2) (subst (λ (d : MicroPriceConfig). Holds d (memoryIn (formIn b) b)) (f .1) holds)

@@ -6,7 +6,8 @@ use mathlib.Core.List.{List, [], _∷_, _++_}
 use mathlib.Core.Option.{Option, none, some}
 use lib.ListN.{length}
 use borrow.Author.Tests.{eq-eqb}
-use Rattle.basics.specs.Lists.{any}
+use Rattle.basics.specs.Lists.{any, sameWords}
+use Rattle.basics.proofs.Lists.{same-self}
 use Rattle.basics.proofs.Tests.{neither}
 use Rattle.refusals.specs.Refusals.{refuseIf}
 use Rattle.refusals.specs.declared.Check.{Check}
@@ -15,10 +16,9 @@ use Rattle.config.specs.Configuration.{states}
 use Rattle.config.specs.declared.MicroPriceConfig.{MicroPriceConfig}
 use Rattle.tally.specs.Rules.{Memory}
 use Rattle.calibrator.specs.declared.Previous.{Previous}
-use Rattle.image_layout.specs.Layout.{imageLength, image, sameWords}
+use Rattle.image_layout.specs.Layout.{newest, imageLength, image}
 use Rattle.image.specs.Image.{restored, lentWrong}
-use Rattle.image.proofs.Round.{same-self}
-use Rattle.history.specs.Calls.{Call, quote, save, restore, History, gains, historyMemory, historyRefusal, Past, orElse, keptWith, historyQuote, historySave, historyRestore, checkOutputLength, historyAct, historyRun}
+use Rattle.history.specs.Calls.{Call, quote, save, restore, History, gains, historyMemory, historyRefusal, Past, orElse, keptWith, returns, historyQuote, historySave, historyRestore, checkOutputLength, historyAct, historyRun}
 use Rattle.history.specs.Demand.{wrote}
 
 pub history-run-append : (c : MicroPriceConfig) (before ks : List Call) (P : Past)
@@ -32,10 +32,10 @@ module _ (c : MicroPriceConfig) (b : List ℕ) where
   KeptLast P H = keptWith b (P .kept) ≡ some H
 
   -- a save that writes b keeps it with the history there
-  save-keeps : (P : Past) (out : List ℕ) → length out ≡ imageLength c → b ≡ image c (historyMemory c (P .now))
+  save-keeps : (P : Past) (out : List ℕ) → length out ≡ imageLength newest c → b ≡ image newest c (historyMemory c (P .now))
       → KeptLast (historyAct c P (save out) .past) (P .now)
   save-keeps P out long is =
-      ap (λ (t : Bool). keptWith b (historySave (refuseIf (not t) 7) P out (image c (historyMemory c (P .now))) .past .kept)) (eq-eqb _ _ long)
+      ap (λ (t : Bool). keptWith b (historySave (refuseIf (not t) 7) P out (image newest c (historyMemory c (P .now))) .past .kept)) (eq-eqb _ _ long)
       ∙ ap (λ (x : List ℕ). orElse (sameWords b x) (P .now) (keptWith b (P .kept))) (sym is)
       ∙ ap (λ (t : Bool). orElse t (P .now) (keptWith b (P .kept))) (same-self b)
 
@@ -49,12 +49,12 @@ module _ (c : MicroPriceConfig) (b : List ℕ) where
   call-leaves P H kept (save out) other = go (checkOutputLength c out) other
     where
       written : List ℕ
-      written = image c (historyMemory c (P .now))
+      written = image newest c (historyMemory c (P .now))
 
       go : (k : Check) → wrote b (historySave k P out written .answer) ≡ false → KeptLast (historySave k P out written .past) H
       go Fine differs = ap (λ (t : Bool). orElse t (P .now) (keptWith b (P .kept))) differs ∙ kept
       go (Refused r) differs = kept
-  call-leaves P H kept (restore d lent) other = go (lentWrong (states c) (lent .counts .tables)) (keptWith d (P .kept))
+  call-leaves P H kept (restore d lent) other = go (lentWrong (states c) (lent .counts .tables)) (returns c P d)
     where
       go : (w : Bool) (o : Option History) → KeptLast (historyRestore c P (restored d lent .answer) w o .past) H
       go true o = kept
@@ -69,14 +69,18 @@ module _ (c : MicroPriceConfig) (b : List ℕ) where
       let n = neither (wrote b (t .answer)) (any (wrote b) (historyRun c (t .past) js .answers)) others in
       calls-leave js (t .past) H (call-leaves P H kept k (n .0)) (n .1)
 
+  -- the history to bring back is the one that b is kept last with
+  kept-returns : (P : Past) (H : History) → KeptLast P H → returns c P b ≡ some H
+  kept-returns P H kept = kept
+
   -- a restore of b brings that history back
   restore-brings : (P : Past) (H : History) → KeptLast P H → (lent : Memory Previous) → lentWrong (states c) (lent .counts .tables) ≡ false
       → historyAct c P (restore b lent) .past .now ≡ H
-  restore-brings P H kept lent sizes = λ i. historyRestore c P (restored b lent .answer) (sizes i) (kept i) .past .now
+  restore-brings P H kept lent sizes = λ i. historyRestore c P (restored b lent .answer) (sizes i) (kept-returns P H kept i) .past .now
 
   pub returns-to-save : (P : Past) (out : List ℕ) (js : List Call) (lent : Memory Previous)
-      → length out ≡ imageLength c
-      → b ≡ image c (historyMemory c (P .now))
+      → length out ≡ imageLength newest c
+      → b ≡ image newest c (historyMemory c (P .now))
       → any (wrote b) (historyRun c (historyAct c P (save out) .past) js .answers) ≡ false
       → lentWrong (states c) (lent .counts .tables) ≡ false
       → historyRun c P (save out ∷ (js ++ (restore b lent ∷ []))) .past .now ≡ P .now

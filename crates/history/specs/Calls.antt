@@ -4,11 +4,12 @@ use mathlib.Core.Bool.{Bool, true, false, not, _&&_, _||_}
 use mathlib.Core.List.{List, [], _∷_, _++_}
 use mathlib.Core.Option.{Option, none, some}
 use lib.Dec.{T, eqb}
+use Rattle.basics.specs.Lists.{sameWords}
 use lib.ListN.{length}
 use Rattle.refusals.specs.Refusals.{refuseIf, firstOf}
 use Rattle.refusals.specs.declared.Check.{Check}
 use Rattle.refusals.specs.declared.Check.the-variants.{Fine, Refused}
-use Rattle.config.specs.Configuration.{states}
+use Rattle.config.specs.Configuration.{states, configWords}
 use Rattle.config.specs.declared.MicroPriceConfig.{MicroPriceConfig}
 use Rattle.quotes.specs.Quotes.{checkQuote}
 use Rattle.quotes.specs.declared.TopOfBook.{TopOfBook}
@@ -19,7 +20,7 @@ use Rattle.calibrator.specs.Observe.{rule, fresh, earlier, observed}
 use Rattle.calibrator.specs.declared.Previous.{Previous}
 use Rattle.calibrator.specs.declared.Previous.the-variants.{Nothing, Quoted}
 use Rattle.image_words.specs.Words.{AllWords}
-use Rattle.image_layout.specs.Layout.{imageLength, image, previousWords, sameWords}
+use Rattle.image_layout.specs.Layout.{newest, imageLength, image, previousWords}
 use Rattle.image.specs.Image.{Saved, saved, savedUnless, restored, lentWrong}
 use Rattle.image.specs.declared.Restored.{Restored}
 use Rattle.image.specs.declared.Restored.the-variants as Restored
@@ -75,9 +76,18 @@ pub record History : Type 0 where
   pub start : Counts
   pub quotes : List TopOfBook
 
+-- none, or the one quote
+abbrev pub previousQuotes : Previous → List TopOfBook
+previousQuotes Nothing = []
+previousQuotes (Quoted q) = q ∷ []
+
+-- the history that begins at a memory: it starts from the memory's counts, and the last quote, if any, is its first
+abbrev pub begins : Memory Previous → History
+begins m = record { start = m .counts; quotes = previousQuotes (m .last) }
+
 -- empty at new
 abbrev pub newHistory : MicroPriceConfig → History
-newHistory c = record { start = fresh c .counts; quotes = [] }
+newHistory c = begins (fresh c)
 
 abbrev pub gains : History → TopOfBook → History
 gains H q = record { start = H .start; quotes = H .quotes ++ q ∷ [] }
@@ -119,6 +129,10 @@ abbrev pub keptWith : List ℕ → List Kept → Option History
 keptWith b [] = none
 keptWith b (k ∷ ks) = orElse (sameWords b (k .bytes)) (k .history) (keptWith b ks)
 
+-- the history, if any, that a restore of those bytes brings back: the one last kept with them
+abbrev pub returns : MicroPriceConfig → Past → List ℕ → Option History
+returns c P b = keptWith b (P .kept)
+
 pub record HistoryActed : Type 0 where
   pub answer : Answer
   pub past : Past
@@ -142,13 +156,13 @@ historyRestore c P a false none = historyActed (restores a) P
 historyRestore c P a false (some H) = historyActed (restores (Restored.Config c)) (becomes P H)
 
 abbrev pub checkOutputLength : MicroPriceConfig → List ℕ → Check
-checkOutputLength c out = refuseIf (not (eqb (length out) (imageLength c))) 7
+checkOutputLength c out = refuseIf (not (eqb (length out) (imageLength newest c))) 7
 
 abbrev pub historyAct : MicroPriceConfig → Past → Call → HistoryActed
 historyAct c P (quote q) = historyQuote (historyRefusal c (P .now) q) P (gains (P .now) q)
-historyAct c P (save out) = historySave (checkOutputLength c out) P out (image c (historyMemory c (P .now)))
+historyAct c P (save out) = historySave (checkOutputLength c out) P out (image newest c (historyMemory c (P .now)))
 historyAct c P (restore b lent) =
-    historyRestore c P (restored b lent .answer) (lentWrong (states c) (lent .counts .tables)) (keptWith b (P .kept))
+    historyRestore c P (restored b lent .answer) (lentWrong (states c) (lent .counts .tables)) (returns c P b)
 
 pub record HistoryRan : Type 0 where
   pub answers : List Answer
@@ -176,7 +190,7 @@ abbrev pub Proper : MicroPriceConfig → Past → Call → Type 0
 Proper c P (quote q) = AllWords (previousWords (Quoted q))
 Proper c P (save out) = Unit {0}
 Proper c P (restore b lent) =
-    T ((not (lentWrong (states c) (lent .counts .tables)) && isSome (keptWith b (P .kept))) || isRefused (restored b lent .answer))
+    T ((not (lentWrong (states c) (lent .counts .tables)) && isSome (returns c P b)) || isRefused (restored b lent .answer))
 
 abbrev pub OwnImages : MicroPriceConfig → Past → List Call → Type 0
 OwnImages c P [] = Unit {0}
@@ -184,6 +198,4 @@ OwnImages c P (k ∷ ks) = Proper c P k × OwnImages c (historyAct c P k .past) 
 
 -- what the types of a configuration's words give
 abbrev pub ConfigWords : MicroPriceConfig → Type 0
-ConfigWords c =
-    AllWords
-    (c .«tick_size» ∷ c .«imbalance_buckets» ∷ c .«spread_states» ∷ c .«min_state_observations» ∷ c .«max_quote_gap_ms» ∷ [])
+ConfigWords c = AllWords (configWords c)

@@ -24,8 +24,8 @@ use Rattle.tally.specs.Rules.{Memory}
 use Rattle.calibrator.specs.declared.Previous.{Previous}
 use Rattle.history.specs.Calls.{Call, run, newPast, OwnImages, ConfigWords}
 use Rattle.history.specs.Demand.{left}
-use Rattle.history.proofs.Claim.{list-claim, empty-is}
-use Rattle.history.proofs.Demand.{demand-3}
+use Rattle.history.proofs.Claim.{list-claim, empty-is, starts-new}
+use Rattle.history.proofs.Demand.{demand-3, demand-3-new}
 use Rattle.history.proofs.Holds.{Holds, first-all, first-last, check-fine, memory-fine}
 use Rattle.model.specs.Rows.{rowAt}
 use Rattle.model.proofs.Rows.{row-held}
@@ -97,7 +97,7 @@ module _ (c : MicroPriceConfig) (e : valid c ≡ true) (fits : ConfigWords c) (k
   left-holds : Holds c (left c ks)
   left-holds =
       let claim = list-claim c e fits ks o in
-      subst (Holds c) (sym (ap (λ (x : Memory Previous). run c x ks .left) (sym (empty-is c e fits)) ∙ claim .memories)) (claim .holds)
+      subst (Holds c) (sym (ap (λ (x : Memory Previous). run c x ks .left) (sym (empty-is c e fits)) ∙ claim .memories)) (claim .sound .holds)
 
   pub fit-after : (scratch model : ℕ) → fitRefusal c (left c ks) scratch model ≡ refuseIf (wrongFitLengths (states c) scratch model) 7
   fit-after scratch model =
@@ -131,6 +131,7 @@ module _ (c : MicroPriceConfig) (e : valid c ≡ true) (fits : ConfigWords c) (k
   demand-3-whole =
       record {
         history = demand-3 c e fits ks o;
+        from-new = demand-3-new c e fits ks o (starts-new c ks);
         fit-refused = fit-after;
         fit-numbers = numbers-after;
         model = model-after;

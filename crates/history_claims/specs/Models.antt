@@ -16,7 +16,7 @@ use Rattle.quotes.specs.Quotes.{exchanged}
 use Rattle.quotes.specs.States.{mirrorOf}
 use Rattle.quotes.specs.declared.TopOfBook.{TopOfBook}
 use Rattle.history.specs.Calls.{Call}
-use Rattle.history.specs.Demand.{left, Demand3}
+use Rattle.history.specs.Demand.{left, Demand3, Demand3New}
 use Rattle.model.specs.Rows.{rowAt}
 use Rattle.fit.specs.Fit.{wrongFitLengths, fitRefusal, fitCounts}
 use Rattle.fit.specs.Models.{RowsOpposite, Inside}
@@ -42,6 +42,8 @@ pub record Model (c : MicroPriceConfig) (t : List ℕ) : Type 0 where
 -- demand 3 whole, of one configuration and one list of calls
 pub record Demand3Whole (c : MicroPriceConfig) (ks : List Call) : Type 0 where
   pub history : Demand3 c ks
+  -- its start is new's zeros
+  pub from-new : Demand3New c ks
   -- before 16 a fit after the list is refused for the lengths of scratch and model table alone
   pub fit-refused : (scratch model : ℕ) → fitRefusal c (left c ks) scratch model ≡ refuseIf (wrongFitLengths (states c) scratch model) 7
   -- a refusal of a fit after the list is 7, or one of 16 to 19

@@ -15,6 +15,7 @@ use Rattle.refusals.specs.Refusals.{checkNumber}
 use Rattle.refusals.specs.declared.Check.{Check}
 use Rattle.refusals.specs.declared.Check.the-variants.{Fine, Refused}
 use Rattle.refusals.specs.declared.Refusal.{Refusal}
+use Rattle.config.specs.Configuration.{sameConfig}
 use Rattle.config.specs.declared.MicroPriceConfig.{MicroPriceConfig}
 use Rattle.quotes.specs.declared.TopOfBook.{TopOfBook}
 use Rattle.tally.specs.Entries.{Tables}
@@ -22,11 +23,11 @@ use Rattle.tally.specs.Rules.{Memory}
 use Rattle.calibrator.specs.Record.{Outcome}
 use Rattle.calibrator.specs.Observe.{observed}
 use Rattle.calibrator.specs.declared.Previous.{Previous}
-use Rattle.image_layout.specs.Layout.{headerLength, configIn}
+use Rattle.image_layout.specs.Layout.{oldest, headerLength, formIn, configIn}
 use Rattle.image.specs.Image.{Saved, endSave, saved, Taken, takenUnless, endRestore, restored, restoreRefusal}
 use Rattle.image.specs.declared.Restored.{Restored}
 use Rattle.history.specs.Calls.{Call, quote, save, restore, restores, afterRestore, act, run}
-use Rattle.history_replay.specs.Replay.{callQuote, startAt, longAt, wellCoded, Site, callAt, siteAfter, sameConfig, isForeign, isLeftOut, otherConfiguration, answerNumber, Stepped, steppedTo, steppedUnless, stepped, callsFrom, callsMade, callNumbers, roomFrom, Replay, replay, replayed}
+use Rattle.history_replay.specs.Replay.{callQuote, startAt, longAt, wellCoded, Site, callAt, siteAfter, isForeign, isLeftOut, otherConfiguration, answerNumber, Stepped, steppedTo, steppedUnless, stepped, callsFrom, callsMade, callNumbers, roomFrom, Replay, replay, replayed}
 use Rattle.history_replay.specs.Inner.{CallEnds}
 use Rattle.history_replay.specs.declared.Replayed.the-variants.{Done, BadEncoding}
 use Rattle.history_replay.proofs.Coding.{kind-is, kind-not}
@@ -58,11 +59,11 @@ module _ (c : MicroPriceConfig) (m : Memory Previous) (b : List ℕ) {f : Bool} 
 
 -- the ways through the test of an image, by what code finds in turn: d its configuration, same whether it is c, k what refuses it
 module _ (c : MicroPriceConfig) (b : List ℕ) (t : Tables) where
-  pub foreign-short : length b < headerLength → false ≡ isForeign c b t
-  foreign-short h = rw (lt-ltb (length b) headerLength h) (sym (and-false (not (sameConfig c (configIn b)))))
+  pub foreign-short : length b < headerLength oldest → false ≡ isForeign c b t
+  foreign-short h = rw (lt-ltb (length b) (headerLength oldest) h) (sym (and-false (not (sameConfig c (configIn (formIn b) b)))))
 
-  module _ {same : Bool} {d : MicroPriceConfig} (config-is : d ≡ configIn b) (compared : same ≡ sameConfig c d) where
-    compared-in : same ≡ sameConfig c (configIn b)
+  module _ {same : Bool} {d : MicroPriceConfig} (config-is : d ≡ configIn (formIn b) b) (compared : same ≡ sameConfig c d) where
+    compared-in : same ≡ sameConfig c (configIn (formIn b) b)
     compared-in = compared ∙ ap (sameConfig c) config-is
 
     pub foreign-same : same ≡ true → false ≡ isForeign c b t

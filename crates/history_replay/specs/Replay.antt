@@ -13,7 +13,7 @@ use lib.Seq.{sets}
 use Rattle.basics.specs.Lists.{allFrom}
 use Rattle.basics.specs.Loan.{Loan, given, final}
 use Rattle.refusals.specs.Refusals.{numberOf, checkNumber}
-use Rattle.config.specs.Configuration.{valid}
+use Rattle.config.specs.Configuration.{valid, sameConfig}
 use Rattle.config.specs.declared.MicroPriceConfig.{MicroPriceConfig}
 use Rattle.quotes.specs.declared.TopOfBook.{TopOfBook}
 use Rattle.tally.specs.Entries.{Tables}
@@ -22,7 +22,7 @@ use Rattle.calibrator.specs.Record.{memory, came, remains}
 use Rattle.calibrator.specs.Observe.{refuses}
 use Rattle.calibrator.specs.declared.Previous.{Previous}
 use Rattle.calibrator.specs.declared.Record.{Record}
-use Rattle.image_layout.specs.Layout.{configIn}
+use Rattle.image_layout.specs.Layout.{formIn, configIn}
 use Rattle.image.specs.Image.{restoreRefusal}
 use Rattle.image.specs.declared.Restored.the-variants as Restored
 use Rattle.history.specs.Calls.{Call, quote, save, restore, Answer, observes, saves, restores, Acted, act, run, historyMemory, Past, newPast, historyRun, OwnImages, ConfigWords}
@@ -91,17 +91,9 @@ roomAfter (restores a) at room = room
 abbrev pub siteAfter : Acted → ℕ → List ℕ → Site
 siteAfter a at room = record { memory = a .left; room = roomAfter (a .answer) at room }
 
-abbrev pub sameConfig : MicroPriceConfig → MicroPriceConfig → Bool
-sameConfig c d =
-    eqb (c .«tick_size») (d .«tick_size»)
-    && eqb (c .«imbalance_buckets») (d .«imbalance_buckets»)
-    && eqb (c .«spread_states») (d .«spread_states»)
-    && eqb (c .«min_state_observations») (d .«min_state_observations»)
-    && eqb (c .«max_quote_gap_ms») (d .«max_quote_gap_ms»)
-
 -- an image of another configuration that nothing refuses
 abbrev pub isForeign : MicroPriceConfig → List ℕ → Tables → Bool
-isForeign c b t = not (sameConfig c (configIn b)) && not (refuses (restoreRefusal b t))
+isForeign c b t = not (sameConfig c (configIn (formIn b) b)) && not (refuses (restoreRefusal b t))
 
 -- a restore of such an image is left out
 abbrev pub isLeftOut : MicroPriceConfig → Call → Bool

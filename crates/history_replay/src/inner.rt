@@ -14,7 +14,7 @@ ghost use Rattle.basics.specs.Loan.{given, final};
 ghost use Rattle.tally.specs.Entries.{tables};
 ghost use Rattle.calibrator.specs.Record.{came, remains};
 ghost use Rattle.history.specs.Calls.{quote, restore, restores};
-ghost use Rattle.history_replay.specs.Replay.{callQuote, isCall, wellCoded, siteCame, siteRemains, sameConfig, isForeign, answerNumber, steppedTo, stepped, Promised, replay as replays};
+ghost use Rattle.history_replay.specs.Replay.{callQuote, isCall, wellCoded, siteCame, siteRemains, isForeign, answerNumber, steppedTo, stepped, Promised, replay as replays};
 ghost use Rattle.history_replay.specs.Inner.{CallEnds};
 
 // A call's answer as a number, and the record as it is left.
@@ -28,16 +28,6 @@ pub struct CallDone {
 // The number of a restore of another configuration, which is left out.
 pub const OTHER_CONFIGURATION: u64 = 101;
 
-fn same_config(config: MicroPriceConfig, d: MicroPriceConfig) -> bool
-    ensures { λ r. ⌜ r ≡ sameConfig config d ⌝ }
-{
-    (config.tick_size == d.tick_size)
-        & (config.imbalance_buckets == d.imbalance_buckets)
-        & (config.spread_states == d.spread_states)
-        & (config.min_state_observations == d.min_state_observations)
-        & (config.max_quote_gap_ms == d.max_quote_gap_ms)
-}
-
 // Whether an image is of another configuration, and restore would take it.
 fn is_foreign(
     config: MicroPriceConfig,
@@ -48,10 +38,10 @@ fn is_foreign(
 ) -> bool
     ensures { λ r. ⌜ r ≡ isForeign config (given bytes) (tables (given stay) (given moved) (given «move_half_ticks»)) ⌝ }
 {
-    if bytes.len() < image_layout::HEADER {
+    if bytes.len() < image_layout::LEAST {
         return false;
     }
-    if same_config(config, image_layout::config_in(bytes)) {
+    if config::inner::same_config(config, image_layout::config_in(bytes)) {
         return false;
     }
     match image::inner::check_restore(bytes, stay, moved, move_half_ticks) {

@@ -1,5 +1,5 @@
 -- The round trip: restoring what was saved gives it back, and an image that is accepted is exactly what save writes of what restore gives.
-use Prim.Native.Nat.{ℕ, suc, _+_, _*_, _≤_, _<_, _^_}
+use Prim.Native.Nat.{ℕ, suc, _+_, _*_, _/_, _≤_, _<_, _^_}
 use mathlib.Core.Path.{_≡_, refl, sym, ap, _∙_}
 use mathlib.Core.Bool.{true, false, not, cond, _&&_, _||_}
 use mathlib.Core.List.{List, [], _∷_, _++_, map}
@@ -11,7 +11,8 @@ use lib.Seq.{take-at, drop-at, take-all, drop-drop}
 use mir.Syntax.{w64}
 use mir.Facts.{toZ-ofZ}
 use borrow.Author.Tests.{le-ltb, eq-eqb, leb-true, not-false}
-use Rattle.basics.specs.Lists.{any}
+use Rattle.basics.specs.Lists.{any, sameWords}
+use Rattle.basics.proofs.Lists.{same-self}
 use Rattle.basics.proofs.Tests.{zero-not-one, neither, eqb-same}
 use Rattle.image_words.specs.Words.{bytesOf, wordsOf, twos, untwos, AllBytes, AllWords}
 use Rattle.image_words.proofs.Laws.{length-bytes, length-words, words-at, words-part}
@@ -37,29 +38,31 @@ use Rattle.calibrator.specs.declared.Previous.{Previous}
 use Rattle.calibrator.specs.declared.Previous.the-variants.{Nothing, Quoted}
 use Rattle.calibrator.specs.declared.Record.{Record}
 use Rattle.calibrator.proofs.Lengths.{RightLengths, lengths-known}
-use Rattle.image_layout.specs.Layout.{cells, imageLength, header, body, image, word, configIn, previousIn, countersIn, tablesFrom, memoryIn, headerIn, sameWords, laidOut}
-use Rattle.image.specs.Image.{saveRefusal, endSave, savedUnless, saved, tooShort, lentWrong, heldRefusal, restoreRefusal, endRestore, takenUnless, restored}
+use Rattle.image_layout.specs.Layout.{oldest, newest, isRead, headerLength, cells, imageLength, header, body, image, word, formIn, configIn, previousIn, recordIn, tablesFrom, memoryIn, headerIn, laidOut}
+use Rattle.image.specs.Image.{saveRefusal, endSave, savedUnless, saved, tooShort, lentWrong, heldRefusal, formRefusal, restoreRefusal, endRestore, takenUnless, restored}
 use Rattle.image.specs.declared.Restored.the-variants.{Config}
 use Rattle.image_layout.proofs.Parts.{length-header}
-use Rattle.image.proofs.Judged.{save-known, restore-known}
+use Rattle.image.proofs.Judged.{save-known, restore-known, restore-newest}
 use Rattle.image.proofs.Ways.{heldWith}
 
 -- ---- one image per content
 
-header-words : (b : List ℕ) → headerIn b ≡ wordsOf 20 b
+header-words : (form : ℕ) (b : List ℕ) → headerIn form b ≡ wordsOf form b
 unfolding headerIn
-header-words b = refl
+header-words form b = refl
 
--- an image that restore accepts is what save writes of what it holds: no byte of it does not matter
-pub accepted-image : (b : List ℕ) (t : Tables) → AllBytes b → restoreRefusal b t ≡ Fine → image (configIn b) (memoryIn b) ≡ b
-accepted-image b t a e =
+-- an image that restore accepts is, in its own form, what save writes of what it holds: no byte of it does not matter
+pub accepted-in-form : (b : List ℕ) (t : Tables) → AllBytes b → restoreRefusal b t ≡ Fine
+    → image (formIn b) (configIn (formIn b) b) (memoryIn (formIn b) b) ≡ b
+accepted-in-form b t a e =
+    let form = formIn b in
     let k = restore-known b t e in
-    let c = configIn b in
+    let c = configIn form b in
     let N = states c in
     let C = N * N in
-    let B = drop 160 b in
+    let B = drop (headerLength form) b in
     let lB : length B ≡ 16 * C + 8 * N = simp length-drop (omega (arith, k .whole)) in
-    let aB = bytes-drop 160 b a in
+    let aB = bytes-drop (headerLength form) b a in
     let d : drop (16 * C) B ≡ drop (8 * C) (drop (8 * C) B) =
     sym (drop-drop (8 * C) (8 * C) B ∙ ap (λ (j : ℕ). drop j B) (let s : 8 * C + 8 * C ≡ 16 * C = omega arith in s)) in
     let t₃ : map twos (map untwos (wordsOf N (drop (16 * C) B))) ≡ wordsOf N (drop (8 * C) (drop (8 * C) B)) =
@@ -69,10 +72,15 @@ accepted-image b t a e =
     ap (λ (r : List ℕ). wordsOf C (drop (8 * C) B) ++ r) t₃ ∙ words-join C N (drop (8 * C) B) in
     let t₁ : body (tablesFrom N B) ≡ wordsOf (C + (C + N)) B =
     ap (λ (r : List ℕ). wordsOf C B ++ r) t₂ ∙ words-join C (C + N) B in
-    let h : header c (previousIn b) (memoryIn b .counts) ≡ wordsOf 20 b = sym (k .header-is) ∙ header-words b in
+    let h : header form c (previousIn b) (memoryIn form b .counts) ≡ wordsOf form b = sym (k .header-is) ∙ header-words form b in
     (λ i. bytesOf (h i ++ t₁ i))
-    ∙ ap bytesOf (words-join 20 (C + (C + N)) b)
-    ∙ bytes-back (20 + (C + (C + N))) b a (omega (arith, k .whole))
+    ∙ ap bytesOf (words-join form (C + (C + N)) b)
+    ∙ bytes-back (form + (C + (C + N))) b a (omega (arith, k .whole))
+
+-- restore accepts the newest form alone
+pub accepted-image : (b : List ℕ) (t : Tables) → AllBytes b → restoreRefusal b t ≡ Fine → image newest (configIn newest b) (memoryIn newest b) ≡ b
+accepted-image b t a e =
+    ap (λ (form : ℕ). image form (configIn form b) (memoryIn form b)) (sym (restore-newest b t e)) ∙ accepted-in-form b t a e
 
 -- ---- what was saved comes back
 
@@ -86,42 +94,38 @@ totals-back (z ∷ l) e =
     let p = neither (overTotal z) (any overTotal l) e in
     λ i. total-back z (p .0) i ∷ totals-back l (p .1) i
 
-pub same-self : (l : List ℕ) → sameWords l l ≡ true
-same-self [] = refl
-same-self (x ∷ xs) = rw (eqb-same x) (same-self xs)
-
 -- the record read back from the header's words
-previous-read : (c : MicroPriceConfig) (l : Previous) (k : Counters) (T : Tables) (rest : List ℕ)
-    → cond (eqb (getD (header c l (countsOf k T) ++ rest) 9 0) 1)
+previous-read : (form : ℕ) (c : MicroPriceConfig) (l : Previous) (k : Counters) (T : Tables) (rest : List ℕ)
+    → cond (eqb (getD (header form c l (countsOf k T) ++ rest) 9 0) 1)
     (Quoted (record {
-      «timestamp_ms» = getD (header c l (countsOf k T) ++ rest) 10 0;
-      bid = getD (header c l (countsOf k T) ++ rest) 11 0;
-      ask = getD (header c l (countsOf k T) ++ rest) 12 0;
-      «bid_size» = getD (header c l (countsOf k T) ++ rest) 13 0;
-      «ask_size» = getD (header c l (countsOf k T) ++ rest) 14 0;
+      «timestamp_ms» = getD (header form c l (countsOf k T) ++ rest) 10 0;
+      bid = getD (header form c l (countsOf k T) ++ rest) 11 0;
+      ask = getD (header form c l (countsOf k T) ++ rest) 12 0;
+      «bid_size» = getD (header form c l (countsOf k T) ++ rest) 13 0;
+      «ask_size» = getD (header form c l (countsOf k T) ++ rest) 14 0;
     })) Nothing ≡ l
 unfolding header
-previous-read c Nothing k T rest = refl
-previous-read c (Quoted q) k T rest = refl
+previous-read form c Nothing k T rest = refl
+previous-read form c (Quoted q) k T rest = refl
 
-counters-read : (c : MicroPriceConfig) (l : Previous) (k : Counters) (T : Tables) (rest : List ℕ)
+counters-read : (form : ℕ) (c : MicroPriceConfig) (l : Previous) (k : Counters) (T : Tables) (rest : List ℕ)
     → _≡_ {A = Counters}
     (record {
-      pairs = getD (header c l (countsOf k T) ++ rest) 15 0;
-      «skipped_spread_pairs» = getD (header c l (countsOf k T) ++ rest) 16 0;
-      «skipped_gap_pairs» = getD (header c l (countsOf k T) ++ rest) 17 0;
-      «largest_move_half_ticks» = getD (header c l (countsOf k T) ++ rest) 18 0;
+      pairs = getD (header form c l (countsOf k T) ++ rest) 15 0;
+      «skipped_spread_pairs» = getD (header form c l (countsOf k T) ++ rest) 16 0;
+      «skipped_gap_pairs» = getD (header form c l (countsOf k T) ++ rest) 17 0;
+      «largest_move_half_ticks» = getD (header form c l (countsOf k T) ++ rest) 18 0;
     }) k
 unfolding header
-counters-read c Nothing k T rest = refl
-counters-read c (Quoted q) k T rest = refl
+counters-read form c Nothing k T rest = refl
+counters-read form c (Quoted q) k T rest = refl
 
-module _ (c : MicroPriceConfig) (l : Previous) (k : Counters) (s m : List ℕ) (t : List ℤ) where
+module _ (form : ℕ) (c : MicroPriceConfig) (l : Previous) (k : Counters) (s m : List ℕ) (t : List ℤ) where
   abbrev T : Tables
   T = tables s m t
 
   abbrev h : List ℕ
-  h = header c l (countsOf k T)
+  h = header form c l (countsOf k T)
 
   abbrev ws : List ℕ
   ws = h ++ body T
@@ -130,16 +134,20 @@ module _ (c : MicroPriceConfig) (l : Previous) (k : Counters) (s m : List ℕ) (
   held = memory (record { previous = l; counters = k }) s m t
 
   abbrev b : List ℕ
-  b = image c held
+  b = image form c held
 
-  module _ (v : Valid c) (z : RightLengths (states c) (length s) (length m) (length t)) (fits : AllWords ws) (small : any overTotal t ≡ false) where
+  module _ (least : oldest ≤ form) (v : Valid c) (z : RightLengths (states c) (length s) (length m) (length t)) (fits : AllWords ws)
+      (small : any overTotal t ≡ false) where
     abbrev C : ℕ
     C = cells c
 
-    length-h : length h ≡ 20
-    length-h = length-header c l k T
+    abbrev start : ℕ
+    start = headerLength form
 
-    length-ws : length ws ≡ 20 + (C + (C + states c))
+    length-h : length h ≡ form
+    length-h = length-header form least c l (countsOf k T)
+
+    length-ws : length ws ≡ form + (C + (C + states c))
     length-ws =
         omega (
           arith,
@@ -153,21 +161,25 @@ module _ (c : MicroPriceConfig) (l : Previous) (k : Counters) (s m : List ℕ) (
           z .totals-cells,
         )
 
-    pub image-length : length b ≡ imageLength c
+    pub image-length : length b ≡ imageLength form c
     image-length = length-bytes ws ∙ omega (arith, length-ws)
 
     words-are : wordsOf (length ws) b ≡ ws
     words-are = words-back ws fits
 
-    word-is : (i : ℕ) → i < 20 → word b i ≡ getD ws i 0
+    word-is : (i : ℕ) → i < oldest → word b i ≡ getD ws i 0
     word-is i lt = sym (words-at (length ws) i b (omega (arith, length-ws))) ∙ ap (λ (r : List ℕ). getD r i 0) words-are
 
     -- a run of words
-    run : (n j : ℕ) → j + n ≤ 20 + (C + (C + states c)) → wordsOf n (drop (8 * j) b) ≡ take n (drop j ws)
+    run : (n j : ℕ) → j + n ≤ form + (C + (C + states c)) → wordsOf n (drop (8 * j) b) ≡ take n (drop j ws)
     run n j lt =
         sym (words-part n j (length ws) b (omega (arith, length-ws))) ∙ ap (λ (r : List ℕ). take n (drop j r)) words-are
 
-    pub config-back : configIn b ≡ c
+    form-back : formIn b ≡ form
+    unfolding header
+    form-back = ap (λ (w : ℕ). w / 8) (word-is 6 (omega arith)) ∙ omega arith
+
+    pub config-back : configIn form b ≡ c
     unfolding header
     config-back =
         λ i.
@@ -192,9 +204,9 @@ module _ (c : MicroPriceConfig) (l : Previous) (k : Counters) (s m : List ℕ) (
           «ask_size» = word-is 14 (omega arith) i;
         }))
         Nothing)
-        ∙ previous-read c l k T (body T)
+        ∙ previous-read form c l k T (body T)
 
-    counters-back : countersIn b ≡ k
+    counters-back : recordIn form b .counters ≡ k
     counters-back =
         (λ i.
         record {
@@ -203,58 +215,66 @@ module _ (c : MicroPriceConfig) (l : Previous) (k : Counters) (s m : List ℕ) (
           «skipped_gap_pairs» = word-is 17 (omega arith) i;
           «largest_move_half_ticks» = word-is 18 (omega arith) i;
         })
-        ∙ counters-read c l k T (body T)
+        ∙ counters-read form c l k T (body T)
 
     -- the tables, run by run
-    stay-back : wordsOf C (drop 160 b) ≡ s
+    stay-back : wordsOf C (drop start b) ≡ s
     stay-back =
-        run C 20 (omega arith)
-        ∙ ap (take C) (drop-at h (body T) 20 length-h)
+        run C form (omega arith)
+        ∙ ap (take C) (drop-at h (body T) form length-h)
         ∙ take-at s (m ++ map twos t) C (z .stay-cells)
 
-    moved-back : wordsOf C (drop (8 * C) (drop 160 b)) ≡ m
+    moved-back : wordsOf C (drop (8 * C) (drop start b)) ≡ m
     moved-back =
-        ap (wordsOf C) (drop-drop (8 * C) 160 b ∙ ap (λ (j : ℕ). drop j b) (let e : 160 + 8 * C ≡ 8 * (20 + C) = omega arith in e))
-        ∙ run C (20 + C) (omega arith)
-        ∙ ap (take C) (sym (drop-drop C 20 ws) ∙ ap (drop C) (drop-at h (body T) 20 length-h) ∙ drop-at s (m ++ map twos t) C (z .stay-cells))
+        ap (wordsOf C) (drop-drop (8 * C) start b ∙ ap (λ (j : ℕ). drop j b) (let e : start + 8 * C ≡ 8 * (form + C) = omega arith in e))
+        ∙ run C (form + C) (omega arith)
+        ∙ ap (take C) (sym (drop-drop C form ws) ∙ ap (drop C) (drop-at h (body T) form length-h) ∙ drop-at s (m ++ map twos t) C (z .stay-cells))
         ∙ take-at m (map twos t) C (z .moved-cells)
 
-    totals-words : wordsOf (states c) (drop (16 * C) (drop 160 b)) ≡ map twos t
+    totals-words : wordsOf (states c) (drop (16 * C) (drop start b)) ≡ map twos t
     totals-words =
-        ap (wordsOf (states c)) (drop-drop (16 * C) 160 b ∙ ap (λ (j : ℕ). drop j b) (let e : 160 + 16 * C ≡ 8 * (20 + (C + C)) = omega arith in e))
-        ∙ run (states c) (20 + (C + C)) (omega arith)
+        ap (wordsOf (states c))
+        (drop-drop (16 * C) start b ∙ ap (λ (j : ℕ). drop j b) (let e : start + 16 * C ≡ 8 * (form + (C + C)) = omega arith in e))
+        ∙ run (states c) (form + (C + C)) (omega arith)
         ∙ ap (take (states c))
-        (sym (drop-drop (C + C) 20 ws)
-        ∙ ap (drop (C + C)) (drop-at h (body T) 20 length-h)
+        (sym (drop-drop (C + C) form ws)
+        ∙ ap (drop (C + C)) (drop-at h (body T) form length-h)
         ∙ sym (drop-drop C C (body T))
         ∙ ap (drop C) (drop-at s (m ++ map twos t) C (z .stay-cells))
         ∙ drop-at m (map twos t) C (z .moved-cells))
         ∙ take-all (states c) (map twos t) (omega (arith, length-map t twos, z .totals-cells))
 
     -- what the image holds is what was saved
-    pub memory-back : memoryIn b ≡ held
+    pub memory-back : memoryIn form b ≡ held
     memory-back =
-        (λ i. memory (record { previous = previous-back i; counters = counters-back i }) (tablesFrom (states (config-back i)) (drop 160 b) .stay)
-        (tablesFrom (states (config-back i)) (drop 160 b) .moved) (tablesFrom (states (config-back i)) (drop 160 b) .totals))
+        (λ i. memory (record { previous = previous-back i; counters = counters-back i }) (tablesFrom (states (config-back i)) (drop start b) .stay)
+        (tablesFrom (states (config-back i)) (drop start b) .moved) (tablesFrom (states (config-back i)) (drop start b) .totals))
         ∙ (λ i. memory (record { previous = l; counters = k }) (stay-back i) (moved-back i) ((ap (map untwos) totals-words ∙ totals-back t small) i))
 
-    header-back : headerIn b ≡ h
-    header-back = header-words b ∙ run 20 0 (omega arith) ∙ take-at h (body T) 20 length-h
+    header-back : headerIn form b ≡ h
+    header-back = header-words form b ∙ run form 0 (omega arith) ∙ take-at h (body T) form length-h
 
-    laid-out : laidOut b ≡ true
-    laid-out =
-        (λ i. sameWords (header-back i) (header (config-back i) (previous-back i) (memory-back i .counts)) && eqb (image-length i)
-        (imageLength (config-back i)))
-        ∙ rw (same-self h, eqb-same (imageLength c))
+    laid-out : isRead form ≡ true → laidOut form b ≡ true
+    laid-out read =
+        (λ i. read i && (sameWords (header-back i) (header form (config-back i) (previous-back i) (memory-back i .counts)) && eqb (image-length i)
+        (imageLength form (config-back i))))
+        ∙ rw (same-self h, eqb-same (imageLength form c))
 
-    -- and nothing refuses it, where nothing refused the save and the lent tables have its lengths
-    pub image-accepted : valid c ≡ true → broken c l ≡ false → checkMirrored c (countsOf k T) ≡ Fine → (lent : Tables) → lentWrong (states c) lent ≡ false
-        → restoreRefusal b lent ≡ Fine
-    image-accepted valid-c sound fine lent sizes =
-        let short : tooShort b ≡ false = le-ltb (length b) 160 (omega (arith, image-length)) in
-        let conf : valid (configIn b) ≡ true = ap valid config-back ∙ valid-c in
-        let held-fine : heldRefusal b lent ≡ Fine = (λ i. heldWith (config-back i) (previous-back i) (memory-back i .counts) lent) ∙ rw (sizes, sound, fine) in
-        rw (short, conf, laid-out, held-fine)
+    -- and nothing refuses it, where the form is read, nothing refused the save and the lent tables have its lengths
+    pub image-accepted : isRead form ≡ true → valid c ≡ true → broken c l ≡ false → checkMirrored c (countsOf k T) ≡ Fine → (lent : Tables)
+        → lentWrong (states c) lent ≡ false → restoreRefusal b lent ≡ Fine
+    image-accepted read valid-c sound fine lent sizes =
+        let short : tooShort b ≡ false = le-ltb (length b) (headerLength oldest) (omega (arith, image-length)) in
+        let conf : valid (configIn form b) ≡ true = ap valid config-back ∙ valid-c in
+        let held-fine : heldRefusal form b lent ≡ Fine =
+        (λ i. heldWith (config-back i) (previous-back i) (memory-back i .counts) lent) ∙ rw (sizes, sound, fine) in
+        ap (λ (f : ℕ). formRefusal f b lent) form-back ∙ rw (short, conf, laid-out read, held-fine)
+
+    -- what restore then gives
+    pub image-taken : (lent : Memory Previous) → takenUnless Fine b lent ≡ endRestore (Config c) held
+    image-taken lent =
+        ap (λ (f : ℕ). endRestore (Config (configIn f b)) (memoryIn f b)) form-back
+        ∙ (λ i. endRestore (Config (config-back i)) (memory-back i))
 
 -- ---- in the operations' own definitions
 
@@ -270,30 +290,31 @@ save-fine (Refused r) before written e = absurd (zero-not-one cc)
 
 -- restoring what was saved, into any memory of the right lengths, gives back configuration, record and tables
 pub restored-saved : (c : MicroPriceConfig) (r : Record) (s m : List ℕ) (t : List ℤ) (out : List ℕ) (lent : Memory Previous)
-    → AllWords (header c (r .previous) (countsOf (r .counters) (tables s m t)) ++ body (tables s m t)) → lentWrong (states c) (lent .counts .tables) ≡ false
-    → saved c (memory r s m t) out .answer ≡ Fine → restored (saved c (memory r s m t) out .output) lent ≡ endRestore (Config c) (memory r s m t)
+    → AllWords (header newest c (r .previous) (countsOf (r .counters) (tables s m t)) ++ body (tables s m t))
+    → lentWrong (states c) (lent .counts .tables) ≡ false → saved c (memory r s m t) out .answer ≡ Fine
+    → restored (saved c (memory r s m t) out .output) lent ≡ endRestore (Config c) (memory r s m t)
 restored-saved c r s m t out lent fits sizes e =
-    let f = save-fine (saveRefusal c (memory r s m t) (length out)) out (image c (memory r s m t)) e in
+    let f = save-fine (saveRefusal c (memory r s m t) (length out)) out (image newest c (memory r s m t)) e in
     let k = save-known c (memory r s m t) (length out) (f .0) in
     let z = lengths-known (states c) (length s) (length m) (length t) (k .sizes) in
     let small = counts-small (states c) (mirrorOf (c .«imbalance_buckets»)) (countsOf (r .counters) (tables s m t)) (k .mirrored) in
-    let b = image c (memory r s m t) in
-    let taken = image-accepted c (r .previous) (r .counters) s m t (k .conf) z fits small (k .valid-is) (k .sound) (k .mirrored) (lent .counts .tables) sizes in
+    let b = image newest c (memory r s m t) in
+    let taken = image-accepted newest c (r .previous) (r .counters) s m t (omega arith) (k .conf) z fits small refl (k .valid-is) (k .sound) (k .mirrored)
+    (lent .counts .tables) sizes in
     ap (λ (o : List ℕ). restored o lent) (f .1)
     ∙ ap (λ (x : Check). takenUnless x b lent) taken
-    ∙ (λ i. endRestore (Config (config-back c (r .previous) (r .counters) s m t (k .conf) z fits small i))
-    (memory-back c (r .previous) (r .counters) s m t (k .conf) z fits small i))
+    ∙ image-taken newest c (r .previous) (r .counters) s m t (omega arith) (k .conf) z fits small lent
 
 restore-fine : (x : Check) (b : List ℕ) (m : Memory Previous) (c : MicroPriceConfig) → takenUnless x b m .answer ≡ Config c
-    → (x ≡ Fine) × (configIn b ≡ c) × (takenUnless x b m .left ≡ memoryIn b)
+    → (x ≡ Fine) × (configIn (formIn b) b ≡ c) × (takenUnless x b m .left ≡ memoryIn (formIn b) b)
 restore-fine Fine b m c e = (refl, cc, refl)
 restore-fine (Refused r) b m c e = absurd (zero-not-one cc)
 
-held-lengths : (b : List ℕ) (t : Tables) → restoreRefusal b t ≡ Fine → checkMemory (configIn b) (memoryIn b) ≡ Fine
+held-lengths : (b : List ℕ) (t : Tables) → restoreRefusal b t ≡ Fine → checkMemory (configIn (formIn b) b) (memoryIn (formIn b) b) ≡ Fine
 held-lengths b t e =
     let k = restore-known b t e in
-    let N = states (configIn b) in
-    let B = drop 160 b in
+    let N = states (configIn (formIn b) b) in
+    let B = drop (headerLength (formIn b)) b in
     let ls = length-words (N * N) B in
     let lm = length-words (N * N) (drop (8 * (N * N)) B) in
     let lt : length (map untwos (wordsOf N (drop (16 * (N * N)) B))) ≡ N =
@@ -304,11 +325,15 @@ held-lengths b t e =
 pub saved-restored : (b : List ℕ) (lent : Memory Previous) (c : MicroPriceConfig) (out : List ℕ) → AllBytes b → restored b lent .answer ≡ Config c
     → length out ≡ length b → saved c (restored b lent .left) out ≡ endSave Fine b
 saved-restored b lent c out bytes e long =
+    let form = formIn b in
     let f = restore-fine (restoreRefusal b (lent .counts .tables)) b lent c e in
     let k = restore-known b (lent .counts .tables) (f .0) in
+    let n = restore-newest b (lent .counts .tables) (f .0) in
     let enough = held-lengths b (lent .counts .tables) (f .0) in
-    let whole : eqb (length out) (imageLength (configIn b)) ≡ true = eq-eqb _ _ (long ∙ k .whole) in
-    let fine : saveRefusal (configIn b) (memoryIn b) (length out) ≡ Fine = rw (enough, whole, k .sound, k .mirrored) in
+    let whole : eqb (length out) (imageLength newest (configIn form b)) ≡ true =
+    eq-eqb _ _ (long ∙ k .whole ∙ ap (λ (x : ℕ). imageLength x (configIn form b)) n) in
+    let fine : saveRefusal (configIn form b) (memoryIn form b) (length out) ≡ Fine = rw (enough, whole, k .sound, k .mirrored) in
     (λ i. saved (sym (f .1) i) (f .2 i) out)
-    ∙ ap (λ (x : Check). savedUnless x out (image (configIn b) (memoryIn b))) fine
-    ∙ ap (endSave Fine) (accepted-image b (lent .counts .tables) bytes (f .0))
+    ∙ ap (λ (x : Check). savedUnless x out (image newest (configIn form b) (memoryIn form b))) fine
+    ∙ ap (λ (x : ℕ). endSave Fine (image x (configIn form b) (memoryIn form b))) (sym n)
+    ∙ ap (endSave Fine) (accepted-in-form b (lent .counts .tables) bytes (f .0))

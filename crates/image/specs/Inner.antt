@@ -7,10 +7,10 @@ use Rattle.refusals.specs.declared.Check.the-variants as Check
 use Rattle.config.specs.Configuration.{states}
 use Rattle.image_layout.specs.Layout.{cells, imageLength, configIn}
 
--- what reading the tables asks of the lengths
-pub record Readable (b : List ℕ) (stay moved totals : ℕ) : Type 0 where
-  pub few : states (configIn b) ≤ 256
-  pub stay-cells : stay ≡ cells (configIn b)
-  pub moved-cells : moved ≡ cells (configIn b)
-  pub totals-cells : totals ≡ states (configIn b)
-  pub whole : length b ≡ imageLength (configIn b)
+-- what reading the tables of an image of the form asks of the lengths
+pub record Readable (form : ℕ) (b : List ℕ) (stay moved totals : ℕ) : Type 0 where
+  pub few : states (configIn form b) ≤ 256
+  pub stay-cells : stay ≡ cells (configIn form b)
+  pub moved-cells : moved ≡ cells (configIn form b)
+  pub totals-cells : totals ≡ states (configIn form b)
+  pub whole : length b ≡ imageLength form (configIn form b)

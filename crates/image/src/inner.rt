@@ -16,7 +16,7 @@ ghost use Rattle.config.specs.Inner.{Valid};
 ghost use Rattle.tally.specs.Entries.{tables};
 ghost use Rattle.calibrator.specs.Record.{came, remains};
 ghost use Rattle.calibrator.specs.Observe.{broken, wrongLengths};
-ghost use Rattle.image_layout.specs.Layout.{cells, imageLength, image, configIn, recordIn, memoryIn};
+ghost use Rattle.image_layout.specs.Layout.{newest, imageLength, image, configIn, recordIn, memoryIn};
 ghost use Rattle.image.specs.Image.{endSave, saved, saveRefusal, endRestore, restored, heldRefusal, restoreRefusal};
 ghost use Rattle.image.specs.Inner.{Readable};
 
@@ -72,8 +72,8 @@ fn write_image(
     config: MicroPriceConfig,
     out: &mut [u8],
 )
-    requires { ⌜ Valid config × (wrongLengths (states config) (length (now stay)) (length (now moved)) (length (now «move_half_ticks»)) ≡ false) × (length (now out) ≡ imageLength config) ⌝ }
-    ensures { λ _. ⌜ final out ≡ image config (came rec stay moved «move_half_ticks») ⌝ }
+    requires { ⌜ Valid config × (wrongLengths (states config) (length (now stay)) (length (now moved)) (length (now «move_half_ticks»)) ≡ false) × (length (now out) ≡ imageLength newest config) ⌝ }
+    ensures { λ _. ⌜ final out ≡ image newest config (came rec stay moved «move_half_ticks») ⌝ }
 {
     let cells = image_layout::cell_count(config);
     let h = image_layout::header_words(config, rec);
@@ -111,8 +111,8 @@ fn check_held(
     moved: &[u64],
     move_half_ticks: &[i64],
 ) -> Check
-    requires { ⌜ Valid config × (config ≡ configIn (now b)) × (rec ≡ recordIn (now b)) × (length (now b) ≡ imageLength config) ⌝ }
-    ensures { λ r. ⌜ r ≡ heldRefusal (given b) (tables (given stay) (given moved) (given «move_half_ticks»)) ⌝ }
+    requires { ⌜ Valid config × (config ≡ configIn newest (now b)) × (rec ≡ recordIn newest (now b)) × (length (now b) ≡ imageLength newest config) ⌝ }
+    ensures { λ r. ⌜ r ≡ heldRefusal newest (given b) (tables (given stay) (given moved) (given «move_half_ticks»)) ⌝ }
 {
     let n = config::inner::state_count(config);
     if calibrator::inner::wrong_lengths(n, stay.len(), moved.len(), move_half_ticks.len()) {
@@ -146,7 +146,7 @@ fn check_held(
 pub fn check_restore(b: &[u8], stay: &[u64], moved: &[u64], move_half_ticks: &[i64]) -> Check
     ensures { λ r. ⌜ r ≡ restoreRefusal (given b) (tables (given stay) (given moved) (given «move_half_ticks»)) ⌝ }
 {
-    if b.len() < image_layout::HEADER {
+    if b.len() < image_layout::LEAST {
         return Check::Refused(Refusal::ImageLayout);
     }
     let config = image_layout::config_in(b);
@@ -161,8 +161,8 @@ pub fn check_restore(b: &[u8], stay: &[u64], moved: &[u64], move_half_ticks: &[i
 }
 
 fn read_tables(b: &[u8], stay: &mut [u64], moved: &mut [u64], move_half_ticks: &mut [i64])
-    requires { ⌜ Readable (now b) (length (now stay)) (length (now moved)) (length (now «move_half_ticks»)) ⌝ }
-    ensures { λ _. ⌜ tables (final stay) (final moved) (final «move_half_ticks») ≡ memoryIn (given b) .counts .tables ⌝ }
+    requires { ⌜ Readable newest (now b) (length (now stay)) (length (now moved)) (length (now «move_half_ticks»)) ⌝ }
+    ensures { λ _. ⌜ tables (final stay) (final moved) (final «move_half_ticks») ≡ memoryIn newest (given b) .counts .tables ⌝ }
 {
     let cells = stay.len();
     image_words::get_table(b, image_layout::HEADER, stay);

@@ -12,12 +12,18 @@ ghost use Rattle.basics.specs.Loan.{given};
 ghost use Rattle.config.specs.Inner.{Valid};
 ghost use Rattle.tally.specs.Entries.{tables};
 ghost use Rattle.calibrator.specs.Record.{countsOf};
-ghost use Rattle.image_layout.specs.Layout.{headerLength, cells, imageLength, previousWords, header, configIn, quoteIn, previousIn, recordIn, headerIn, sameWords, laidOut};
+ghost use Rattle.basics.specs.Lists.{sameWords};
+ghost use Rattle.image_layout.specs.Layout.{oldest, newest, headerLength, cells, imageLength, previousWords, header, formIn, configIn, quoteIn, previousIn, recordIn, headerIn, laidOut};
 
-// The header's length, as a word of it and as a place in bytes.
-const LENGTH: u64 = 160;
+// The words of the oldest header, and the bytes that every header has.
+const OLDEST: usize = 20;
 
-pub const HEADER: usize = LENGTH as usize;
+pub const LEAST: usize = 8 * OLDEST;
+
+// The words of the header that save writes, its form, and its length in bytes.
+pub const FORM: usize = OLDEST;
+
+pub const HEADER: usize = 8 * FORM;
 
 // The cells of a table.
 pub fn cell_count(config: MicroPriceConfig) -> usize
@@ -37,12 +43,13 @@ pub fn previous_words(previous: Previous) -> [u64; 6]
     }
 }
 
-pub fn header_words(config: MicroPriceConfig, rec: Record) -> [u64; 20]
+pub fn header_words(config: MicroPriceConfig, rec: Record) -> [u64; FORM]
     requires { ⌜ Valid config ⌝ }
-    ensures { λ r. ⌜ r ≡ header config (rec .previous) (countsOf (rec .counters) (tables [] [] [])) ⌝ }
+    ensures { λ r. ⌜ r ≡ header newest config (rec .previous) (countsOf (rec .counters) (tables [] [] [])) ⌝ }
 {
     let n = config::inner::state_count(config) as u64;
     let cells = cell_count(config) as u64;
+    let start = HEADER as u64;
     let previous = rec.previous;
     let q = previous_words(previous);
     let k = rec.counters;
@@ -53,9 +60,9 @@ pub fn header_words(config: MicroPriceConfig, rec: Record) -> [u64; 20]
         config.tick_size,
         config.min_state_observations,
         config.max_quote_gap_ms,
-        LENGTH,
-        LENGTH + 8 * cells,
-        LENGTH + 16 * cells,
+        start,
+        start + 8 * cells,
+        start + 16 * cells,
         q[0],
         q[1],
         q[2],
@@ -66,33 +73,40 @@ pub fn header_words(config: MicroPriceConfig, rec: Record) -> [u64; 20]
         k.skipped_spread_pairs,
         k.skipped_gap_pairs,
         k.largest_move_half_ticks,
-        LENGTH + 16 * cells + 8 * n,
+        start + 16 * cells + 8 * n,
     ]
 }
 
 pub fn image_length(config: MicroPriceConfig) -> usize
     requires { ⌜ Valid config ⌝ }
-    ensures { λ r. ⌜ r ≡ imageLength config ⌝ }
+    ensures { λ r. ⌜ r ≡ imageLength newest config ⌝ }
 {
     HEADER + 16 * cell_count(config) + 8 * config::inner::state_count(config)
 }
 
+// The form of an image, by its stay offset.
+fn form_in(b: &[u8]) -> u64
+    requires { ⌜ headerLength oldest ≤ length (now b) ⌝ }
+    ensures { λ r. ⌜ r ≡ formIn (given b) ⌝ }
+{
+    image_words::get_word(b, 48) / 8
+}
+
 pub fn config_in(b: &[u8]) -> MicroPriceConfig
-    requires { ⌜ headerLength ≤ length (now b) ⌝ }
-    ensures { λ r. ⌜ r ≡ configIn (given b) ⌝ }
+    requires { ⌜ headerLength oldest ≤ length (now b) ⌝ }
+    ensures { λ r. ⌜ r ≡ configIn (formIn (given b)) (given b) ⌝ }
 {
     let n = image_words::get_word(b, 8);
     let s = image_words::get_word(b, 16);
     let tick = image_words::get_word(b, 24);
     let least = image_words::get_word(b, 32);
     let gap = image_words::get_word(b, 40);
-    MicroPriceConfig::new(tick, n, s)
-        .with_min_state_observations(least)
-        .with_max_quote_gap_ms(gap)
+    let words = [tick, n, s, least, gap];
+    config::inner::config_of(&words)
 }
 
 fn quote_in(b: &[u8]) -> TopOfBook
-    requires { ⌜ headerLength ≤ length (now b) ⌝ }
+    requires { ⌜ headerLength oldest ≤ length (now b) ⌝ }
     ensures { λ r. ⌜ r ≡ quoteIn (given b) ⌝ }
 {
     let timestamp_ms = image_words::get_word(b, 80);
@@ -110,7 +124,7 @@ fn quote_in(b: &[u8]) -> TopOfBook
 }
 
 fn previous_in(b: &[u8]) -> Previous
-    requires { ⌜ headerLength ≤ length (now b) ⌝ }
+    requires { ⌜ headerLength oldest ≤ length (now b) ⌝ }
     ensures { λ r. ⌜ r ≡ previousIn (given b) ⌝ }
 {
     let flag = image_words::get_word(b, 72);
@@ -121,8 +135,8 @@ fn previous_in(b: &[u8]) -> Previous
 }
 
 pub fn record_in(b: &[u8]) -> Record
-    requires { ⌜ headerLength ≤ length (now b) ⌝ }
-    ensures { λ r. ⌜ r ≡ recordIn (given b) ⌝ }
+    requires { ⌜ headerLength oldest ≤ length (now b) ⌝ }
+    ensures { λ r. ⌜ r ≡ recordIn (formIn (given b)) (given b) ⌝ }
 {
     let previous = previous_in(b);
     let pairs = image_words::get_word(b, 120);
@@ -141,11 +155,11 @@ pub fn record_in(b: &[u8]) -> Record
 }
 
 fn same_words(b: &[u8], h: &[u64]) -> bool
-    requires { ⌜ (headerLength ≤ length (now b)) × (length (now h) ≡ 20) ⌝ }
-    ensures { λ r. ⌜ r ≡ sameWords (headerIn (given b)) (given h) ⌝ }
+    requires { ⌜ headerLength (length (now h)) ≤ length (now b) ⌝ }
+    ensures { λ r. ⌜ r ≡ sameWords (headerIn (length (given h)) (given b)) (given h) ⌝ }
 {
     let mut i: usize = 0;
-    while i < 20 {
+    while i < h.len() {
         if image_words::get_word(b, 8 * i) != h[i] {
             return false;
         }
@@ -155,9 +169,12 @@ fn same_words(b: &[u8], h: &[u64]) -> bool
 }
 
 pub fn is_laid_out(b: &[u8], config: MicroPriceConfig, rec: Record) -> bool
-    requires { ⌜ Valid config × (headerLength ≤ length (now b)) × (config ≡ configIn (now b)) × (rec ≡ recordIn (now b)) ⌝ }
-    ensures { λ r. ⌜ r ≡ laidOut (given b) ⌝ }
+    requires { ⌜ Valid config × (headerLength oldest ≤ length (now b)) × (config ≡ configIn (formIn (now b)) (now b)) × (rec ≡ recordIn (formIn (now b)) (now b)) ⌝ }
+    ensures { λ r. ⌜ r ≡ laidOut (formIn (given b)) (given b) ⌝ }
 {
+    if form_in(b) != FORM as u64 {
+        return false;
+    }
     let h = header_words(config, rec);
     let same = same_words(b, &h);
     same & (b.len() == image_length(config))

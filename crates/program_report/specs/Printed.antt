@@ -6,7 +6,7 @@ use lib.Dec.{ltb}
 use lib.ListN.{getD, replicate}
 use Rattle.floats.specs.Floats.{posZero}
 use Rattle.refusals.specs.Refusals.{numberOf}
-use Rattle.config.specs.Configuration.{newConfig, withMinStateObservations, withMaxQuoteGapMs, states}
+use Rattle.config.specs.Configuration.{states, configOf}
 use Rattle.config.specs.declared.MicroPriceConfig.{MicroPriceConfig}
 use Rattle.tally.specs.Events.{Counts}
 use Rattle.calibrator.specs.Observe.{fresh}
@@ -44,10 +44,7 @@ outcomeText n o = outcomeLines n (o .answer) (countLines (o .left .counts)) (o .
 -- ---- the program
 
 abbrev pub requestConfig : Request → MicroPriceConfig
-requestConfig r =
-    withMaxQuoteGapMs
-    (withMinStateObservations (newConfig (r .tick) (r .buckets) (r .«spread_states»)) (r .least))
-    (r .gap)
+requestConfig r = configOf (r .tick ∷ r .buckets ∷ r .«spread_states» ∷ r .least ∷ r .gap ∷ [])
 
 -- the evening of a request on a new calibrator, model table and scratch of zeros
 abbrev pub eveningOf : Request → List ℕ → EveningOutcome

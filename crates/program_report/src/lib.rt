@@ -47,9 +47,8 @@ fn put_outcome(out: &mut [u8], answer: Evening, k: Counters, model: &[u64], n: u
 fn request_config(r: Request) -> MicroPriceConfig
     ensures { λ c. ⌜ c ≡ requestConfig r ⌝ }
 {
-    MicroPriceConfig::new(r.tick, r.buckets, r.spread_states)
-        .with_min_state_observations(r.least)
-        .with_max_quote_gap_ms(r.gap)
+    let words = [r.tick, r.buckets, r.spread_states, r.least, r.gap];
+    config::inner::config_of(&words)
 }
 
 // The record of a new calibrator.
@@ -58,12 +57,7 @@ fn new_record() -> Record
 {
     Record {
         previous: Previous::Nothing,
-        counters: Counters {
-            pairs: 0,
-            skipped_spread_pairs: 0,
-            skipped_gap_pairs: 0,
-            largest_move_half_ticks: 0,
-        },
+        counters: calibrator::inner::no_counters(),
     }
 }
 

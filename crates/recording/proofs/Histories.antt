@@ -26,7 +26,7 @@ use Rattle.tally.specs.Rules.{Memory, step, events, memoryOf}
 use Rattle.tally.proofs.Balance.{after-none, after-sized, zeros-sized}
 use Rattle.tally.proofs.Overs.{zeros-within, over-touched}
 use Rattle.tally.proofs.Step.{carried-snoc, step-memory}
-use Rattle.calibrator.specs.Record.{Outcome, answered}
+use Rattle.calibrator.specs.Record.{kinds, Outcome, answered}
 use Rattle.calibrator.specs.Observe.{rule, checkMemory, broken, earlier, judge, refusalBy, observed, fresh}
 use Rattle.calibrator.specs.declared.Previous.{Previous}
 use Rattle.calibrator.specs.declared.Previous.the-variants.{Nothing}
@@ -63,14 +63,14 @@ past-fine (Refused r) b = refl
 
 -- the memory of a history of a new calibrator
 abbrev held : MicroPriceConfig → List TopOfBook → Memory Previous
-held c H = memoryOf (rule c) Nothing (zeros 2 (states c)) H
+held c H = memoryOf (rule c) Nothing (zeros kinds (states c)) H
 
 module _ (c : MicroPriceConfig) (e : valid c ≡ true) where
   v : Valid c
   v = valid-known c e
 
-  sized : (H : List TopOfBook) → Sized 2 (states c) (held c H .counts)
-  sized H = after-sized 2 (states c) (rule c .mirror) (zeros 2 (states c)) (events (rule c) Nothing H)
+  sized : (H : List TopOfBook) → Sized kinds (states c) (held c H .counts)
+  sized H = after-sized kinds (states c) (rule c .mirror) (zeros kinds (states c)) (events (rule c) Nothing H)
 
   enough : (H : List TopOfBook) → checkMemory c (held c H) ≡ Fine
   enough H =
@@ -88,13 +88,13 @@ module _ (c : MicroPriceConfig) (e : valid c ≡ true) where
   passes H q = overLimit (held c (H ++ q ∷ []) .counts)
 
   one-more : (H : List TopOfBook) (q : TopOfBook) → step (rule c) (held c H) q ≡ held c (H ++ q ∷ [])
-  one-more H q = step-memory (rule c) (rule-lawful c v) Nothing (zeros 2 (states c)) H q
+  one-more H q = step-memory (rule c) (rule-lawful c v) Nothing (zeros kinds (states c)) H q
 
   module _ (t : ℕ) (H : List TopOfBook) (h : Ready t H) (q : TopOfBook) where
     -- 6 is of the history with the quote
     six : touched (states c) (rule c .mirror) (rule c .event (held c H .last) q) (step (rule c) (held c H) q .counts) ≡ passes H q
     six =
-        sym (over-touched 2 (states c) (rule c .mirror) (rule-lawful c v .mirror-below) (held c H .counts) (sized H) (h .within)
+        sym (over-touched kinds (states c) (rule c .mirror) (rule-lawful c v .mirror-below) (held c H .counts) (sized H) (h .within)
         (rule c .event (held c H .last) q) (rule-lawful c v .event-in (held c H .last) q))
         ∙ ap (λ (m : Memory Previous). overLimit (m .counts)) (one-more H q)
 
@@ -222,7 +222,7 @@ module _ (c : MicroPriceConfig) (e : valid c ≡ true) where
       λ i.
       record {
         last = Nothing;
-        counts = after-none 2 (states c) (rule c .mirror) (zeros 2 (states c)) (zeros-sized 2 (states c)) i;
+        counts = after-none kinds (states c) (rule c .mirror) (zeros kinds (states c)) (zeros-sized kinds (states c)) i;
       }
 
   module _ (qs : List TopOfBook) (s : sorted qs ≡ true) where
@@ -231,7 +231,7 @@ module _ (c : MicroPriceConfig) (e : valid c ≡ true) where
         record {
           sound = refl;
           late = λ q l. refl;
-          within = ap (λ (m : Memory Previous). overLimit (m .counts)) empty-is ∙ zeros-within 2 (states c);
+          within = ap (λ (m : Memory Previous). overLimit (m .counts)) empty-is ∙ zeros-within kinds (states c);
         }
 
     all : Counted [] qs 0 (recorded c qs 0 (fresh c))
@@ -243,7 +243,7 @@ module _ (c : MicroPriceConfig) (e : valid c ≡ true) where
 
     -- if nothing does, its memory is that of the history of the quotes that 3 and 4 do not refuse, and the others are the invalid ones
     pub new-left : recorded c qs 0 (fresh c) .answer ≡ Fine
-        → recorded c qs 0 (fresh c) .left ≡ memoryOf (rule c) Nothing (zeros 2 (states c)) (filter (usable c) qs)
+        → recorded c qs 0 (fresh c) .left ≡ memoryOf (rule c) Nothing (zeros kinds (states c)) (filter (usable c) qs)
     new-left u = all .left-is u
 
     pub new-invalid : recorded c qs 0 (fresh c) .answer ≡ Fine → recorded c qs 0 (fresh c) .invalid ≡ count (unusable c) qs

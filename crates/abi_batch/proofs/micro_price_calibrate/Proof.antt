@@ -1,4 +1,4 @@
--- `abi_batch::micro_price_calibrate` meets its contract. The ways out: other than five and ten words are answered 100 and nothing is written, the second
+-- `abi_batch::micro_price_calibrate` meets its contract. The ways out: words of other lengths are answered 100 and nothing is written, the second
 -- case of `calibrateWords`; else the words hold the configuration, and what the evening leaves goes back as a number, with the record's words where quotes were
 -- counted and the number of invalid quotes where there was a fit (`evening-words`). The calls after the test ask of the words only what the test says
 -- (`known`). No loop.
@@ -11,14 +11,14 @@ use Rattle.abi_batch.proofs.micro_price_calibrate.Statement.{statement}
 use Rattle.abi_batch.proofs.micro_price_calibrate.Tie as tie
 
 returns : tie.Need-returns
-returns c = rw (sym (c .before .five-and-ten .ensures) ∙ not-true _ (c .if1 .taken))
+returns c = rw (sym (c .before .right-words .ensures) ∙ not-true _ (c .if1 .taken))
 
--- the words are five and ten
+-- the words have the right lengths
 known : (c : tie.Else1) → let at-start : tie.Start = search in Long (at-start .args .config .now) (at-start .args .rec .now)
-known c = long-by _ _ _ (c .before .five-and-ten .ensures) (not-false _ (c .if1 .left))
+known c = long-by _ _ _ (c .before .right-words .ensures) (not-false _ (c .if1 .left))
 
 record-of-requires : tie.Need-record-of-requires
-record-of-requires c κs = known (c .before) .ten
+record-of-requires c κs = known (c .before) .rec-long
 
 config-of-requires : tie.Need-config-of-requires
 config-of-requires c κs =
@@ -28,7 +28,7 @@ config-of-requires c κs =
 put-counted-requires : tie.Need-put-counted-requires
 put-counted-requires c κs =
     let at-else1 : tie.Else1 = search in
-    known at-else1 .ten
+    known at-else1 .rec-long
 
 returns-2 : tie.Need-returns-2
 returns-2 c =

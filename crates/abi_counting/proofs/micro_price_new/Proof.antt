@@ -1,4 +1,4 @@
--- `abi_counting::micro_price_new` meets its contract. The ways out: other than five and ten words are answered 100 and nothing is written, the second case of
+-- `abi_counting::micro_price_new` meets its contract. The ways out: words of other lengths are answered 100 and nothing is written, the second case of
 -- `newWords`; a refusal goes out as its number and no word is written (`outcome-refused`); else the new record is written over the ten words
 -- (`outcome-fine`). The calls after the test ask of the words only what the test says (`known`). No loop.
 use mathlib.Core.Path.{sym, _∙_}
@@ -11,14 +11,14 @@ use Rattle.abi_counting.proofs.micro_price_new.Statement.{statement}
 use Rattle.abi_counting.proofs.micro_price_new.Tie as tie
 
 returns : tie.Need-returns
-returns c = rw (sym (c .before .five-and-ten .ensures) ∙ not-true _ (c .if1 .taken))
+returns c = rw (sym (c .before .right-words .ensures) ∙ not-true _ (c .if1 .taken))
 
--- the words are five and ten
+-- the words have the right lengths
 known : (c : tie.Else1) → let at-start : tie.Start = search in Long (at-start .args .config .now) (at-start .args .rec .now)
-known c = long-by _ _ _ (c .before .five-and-ten .ensures) (not-false _ (c .if1 .left))
+known c = long-by _ _ _ (c .before .right-words .ensures) (not-false _ (c .if1 .left))
 
 record-of-requires : tie.Need-record-of-requires
-record-of-requires c κs = known (c .before) .ten
+record-of-requires c κs = known (c .before) .rec-long
 
 config-of-requires : tie.Need-config-of-requires
 config-of-requires c κs =
@@ -40,7 +40,7 @@ returns-2 c =
 put-record-requires : tie.Need-put-record-requires
 put-record-requires c κs =
     let at-else1 : tie.Else1 = search in
-    known at-else1 .ten
+    known at-else1 .rec-long
 
 returns-3 : tie.Need-returns-3
 returns-3 c =

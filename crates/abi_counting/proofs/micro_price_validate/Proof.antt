@@ -1,5 +1,5 @@
--- `abi_counting::micro_price_validate` meets its contract: other than five words are answered 100; five words hold a configuration, whose check goes out as its
--- number. Both ways out are the definition with its test on the length decided. No loop.
+-- `abi_counting::micro_price_validate` meets its contract: words of another length are answered 100; others hold a configuration, whose check goes out as
+-- its number. Both ways out are the definition with its test on the length decided. No loop.
 use borrow.Author.Tests.{eq-eqb, ne-eqb}
 use borrow.Author.Needs.{needs}
 use Rattle.abi_counting.proofs.micro_price_validate.Statement.{statement}

@@ -17,7 +17,7 @@ known : (c : tie.Else1) → let at-start : tie.Start = search in Encoded (at-sta
 known c = encoded-by _ _ _ (c .before .is-encoded .ensures) (not-false _ (c .if1 .left))
 
 record-of-requires : tie.Need-record-of-requires
-record-of-requires c κs = known c .ten
+record-of-requires c κs = known c .rec-long
 
 config-of-requires : tie.Need-config-of-requires
 config-of-requires c κs = known (c .before) .config

@@ -1,6 +1,6 @@
--- `abi_models::micro_price_signal` meets its contract. The ways out: other than five words or other than four words for the signal are answered 100, the
--- second case of `signalWords`; a signal is sent, and its four words are written (`signal-words-sent`); a refusal goes out as its number, with the row that it
--- names at 13, and the four words stay (`signal-words-refused`). No loop.
+-- `abi_models::micro_price_signal` meets its contract. The ways out: words of other lengths for the signal are answered 100, the
+-- second case of `signalWords`; a signal is sent, and its words are written (`signal-words-sent`); a refusal goes out as its number, with the row that it
+-- names at 13, and the words stay (`signal-words-refused`). No loop.
 use borrow.Author.Tests.{eq-eqb, ne-eqb}
 use Rattle.abi_encoding.specs.Encoding.{topOfBook}
 use Rattle.abi_models.proofs.ModelWords.{signal-words-sent, signal-words-refused}

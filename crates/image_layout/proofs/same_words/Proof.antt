@@ -1,21 +1,21 @@
--- `image_layout::same_words` meets its contract: whether 20 words of bytes are those of h. Loop over i, measure 20 − i; invariant: all words are the same
--- exactly if those from i on are. A word that differs ends the walk (`same-differs`), one that agrees leaves the rest (`same-agrees`), and with no word left
--- all are the same (`same-end`).
+-- `image_layout::same_words` meets its contract: whether the words of bytes are those of h. Loop over i, measure what is left of h; invariant: all words are
+-- the same exactly if those from i on are. A word that differs ends the walk (`same-differs`), one that agrees leaves the rest (`same-agrees`), and with no
+-- word left all are the same (`same-end`).
 use mathlib.Core.Path.{_≡_, sym, _∙_}
-use Prim.Native.Nat.{_-_, _*_, _≤_}
+use Prim.Native.Nat.{_-_, _≤_}
 use native.Mathlib.Omega.{arith}
-use lib.ListN.{drop}
-use Rattle.image_words.specs.Words.{wordsOf}
-use Rattle.image_layout.specs.Layout.{headerIn, sameWords}
-use Rattle.image_layout.proofs.Headers.{same-start, same-differs, same-agrees, same-end}
+use lib.ListN.{length}
+use Rattle.basics.specs.Lists.{sameWords}
+use Rattle.image_layout.specs.Layout.{headerIn}
+use Rattle.image_layout.proofs.Headers.{sameFrom, same-start, same-differs, same-agrees, same-end}
 use Rattle.image_layout.proofs.same_words.Statement.{statement}
 use Rattle.image_layout.proofs.same_words.Tie as tie
 
 abbrev Inv-loop : tie.InvT-loop
-Inv-loop b h i₀ i = (i ≤ 20) × (sameWords (headerIn b) h ≡ sameWords (wordsOf (20 - i) (drop (8 * i) b)) (drop i h))
+Inv-loop b h i₀ i = (i ≤ length h) × (sameWords (headerIn (length h) b) h ≡ sameFrom b h i)
 
 abbrev μ-loop : tie.MeasureT-loop
-μ-loop b h i₀ i = 20 - i
+μ-loop b h i₀ i = length h - i
 
 loop-holds : tie.Need-loop-holds Inv-loop μ-loop
 loop-holds c = let a = c .before .before .args in (omega arith, same-start (a .b .now) (a .h .now))
@@ -27,8 +27,7 @@ returns c =
     let a = at-start .args in
     let l = at-loop .loop in
     sym (l .inv .1
-    ∙ same-differs (a .b .now) (a .h .now) (l .i) (c .before .before .before .loop-test .taken) (at-start .pre .1) (c .before .before .get-word .ensures)
-    (c .if1 .taken))
+    ∙ same-differs (a .b .now) (a .h .now) (l .i) (c .before .before .before .loop-test .taken) (c .before .before .get-word .ensures) (c .if1 .taken))
 
 loop-again : tie.Need-loop-again Inv-loop μ-loop
 loop-again c =
@@ -38,8 +37,7 @@ loop-again c =
     let l = at-loop .loop in (
       omega arith,
       l .inv .1
-          ∙ same-agrees (a .b .now) (a .h .now) (l .i) (c .before .before .before .loop-test .taken) (at-start .pre .1) (c .before .before .get-word .ensures)
-          (c .if1 .left),
+          ∙ same-agrees (a .b .now) (a .h .now) (l .i) (c .before .before .before .loop-test .taken) (c .before .before .get-word .ensures) (c .if1 .left),
     )
 
 returns-2 : tie.Need-returns-2 Inv-loop μ-loop
@@ -47,7 +45,7 @@ returns-2 c =
     let at-start : tie.Start Inv-loop μ-loop = search in
     let a = at-start .args in
     let l = c .before .loop in
-    sym (l .inv .1 ∙ same-end (a .b .now) (a .h .now) (l .i) (c .loop-test .left) (at-start .pre .1))
+    sym (l .inv .1 ∙ same-end (a .b .now) (a .h .now) (l .i) (c .loop-test .left))
 
 pub same-words-spec : {M : Type 1} → statement M
 same-words-spec =

@@ -2,6 +2,7 @@
 -- quote (8, `held-eight`), else the check of the tables where they lie in the bytes (`held-checked`). The three parts that code cuts out of the bytes hold N²,
 -- N² and N words (`parts-lie`), and their words are the image's tables (`parts-are`).
 use Rattle.tally.specs.Entries.{tables}
+use Rattle.image_layout.specs.Layout.{newest}
 use Rattle.image.proofs.Ways.{held-seven, held-eight, held-checked}
 use Rattle.image.proofs.Judged.{parts-lie, parts-are}
 use borrow.Author.Needs.{needs}
@@ -12,7 +13,7 @@ returns : tie.Need-returns
 returns c =
     let at-start : tie.Start = search in
     let a = at-start .args in
-    held-seven (a .b .now) (tables (a .stay .now) (a .moved .now) (a .move-half-ticks .now)) (a .config) (a .rec) (at-start .pre .1) (at-start .pre .2)
+    held-seven newest (a .b .now) (tables (a .stay .now) (a .moved .now) (a .move-half-ticks .now)) (a .config) (a .rec) (at-start .pre .1) (at-start .pre .2)
     (c .before .before .state-count .ensures) (c .before .wrong-lengths .ensures) (c .if1 .taken)
 
 returns-2 : tie.Need-returns-2
@@ -20,7 +21,7 @@ returns-2 c =
     let at-state-count : tie.After-state-count = search in
     let at-start : tie.Start = search in
     let a = at-start .args in
-    held-eight (a .b .now) (tables (a .stay .now) (a .moved .now) (a .move-half-ticks .now)) (a .config) (a .rec) (at-start .pre .1) (at-start .pre .2)
+    held-eight newest (a .b .now) (tables (a .stay .now) (a .moved .now) (a .move-half-ticks .now)) (a .config) (a .rec) (at-start .pre .1) (at-start .pre .2)
     (at-state-count .state-count .ensures) (c .before .before .before .wrong-lengths .ensures) (c .before .before .if1 .left) (c .before .is-broken .ensures)
     (c .if2 .taken)
 
@@ -30,7 +31,7 @@ check-tables-requires c κs =
     let at-start : tie.Start = search in
     let a = at-start .args in
     let p = at-start .pre in
-    (p .0, parts-lie (a .b .now) (a .config) (p .0) (p .3) _ (at-cell-count .cell-count .ensures .0) _ _ _)
+    (p .0, parts-lie newest (a .b .now) (a .config) (p .0) (p .3) _ (at-cell-count .cell-count .ensures .0) _ _ _)
 
 returns-3 : tie.Need-returns-3
 returns-3 c =
@@ -43,10 +44,10 @@ returns-3 c =
     let at-start : tie.Start = search in
     let a = at-start .args in
     let p = at-start .pre in
-    held-checked (a .b .now) (tables (a .stay .now) (a .moved .now) (a .move-half-ticks .now)) (a .config) (a .rec) (p .1) (p .2)
+    held-checked newest (a .b .now) (tables (a .stay .now) (a .moved .now) (a .move-half-ticks .now)) (a .config) (a .rec) (p .1) (p .2)
     (at-state-count .state-count .ensures)
     (at-wrong-lengths .wrong-lengths .ensures) (at-else1 .if1 .left) (at-is-broken .is-broken .ensures) (at-else2 .if2 .left)
-    (parts-are (a .b .now) (a .config) (p .0) (p .3) _ (at-cell-count .cell-count .ensures .0) (a .stay .now) (a .moved .now) (a .move-half-ticks .now))
+    (parts-are newest (a .b .now) (a .config) (p .0) (p .3) _ (at-cell-count .cell-count .ensures .0) (a .stay .now) (a .moved .now) (a .move-half-ticks .now))
     (c .check-tables .ensures)
 
 pub check-held-spec : {M : Type 1} → statement M

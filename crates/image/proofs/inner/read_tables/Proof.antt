@@ -1,5 +1,6 @@
 -- `image::inner::read_tables` meets its contract: three reads, each where the part before it ends, are the three tables of the image, whose lengths `Readable`
 -- says (`read-is`).
+use Rattle.image_layout.specs.Layout.{newest}
 use Rattle.image.proofs.Ways.{read-is}
 use mathlib.Core.Path.{refl}
 use borrow.Author.Needs.{needs}
@@ -12,7 +13,7 @@ returns c =
     let at-get-table : tie.After-get-table = search in
     let at-start : tie.Start = search in
     let a = at-start .args in
-    read-is (a .b .now) (a .stay .now) (a .moved .now) (a .move-half-ticks .now) (at-start .pre) refl (at-get-table .get-table .ensures)
+    read-is newest (a .b .now) (a .stay .now) (a .moved .now) (a .move-half-ticks .now) (at-start .pre) refl (at-get-table .get-table .ensures)
     (at-get-table2 .get-table2 .ensures) (c .before .get-totals .ensures)
 
 pub read-tables-spec : {M : Type 1} → statement M

@@ -1,11 +1,11 @@
--- `abi_encoding::put_config` meets its contract: five words are written at 0 to 4 of a slice of five, so that nothing of the old ones is left (`config-put`). A
+-- `config::inner::put_config` meets its contract: the words are written one by one over all of the slice, and nothing of the old ones is left (`config-put`). A
 -- write keeps the length, which is what the writes after it ask.
-use Rattle.abi_encoding.proofs.Laws.{config-put}
+use Rattle.config.proofs.Words.{config-put}
 use lib.ListN.{length-set}
 use native.Mathlib.Omega.{arith}
 use borrow.Author.Tests.{eqb-true}
-use Rattle.abi_encoding.proofs.put_config.Statement.{statement}
-use Rattle.abi_encoding.proofs.put_config.Tie as tie
+use Rattle.config.proofs.inner.put_config.Statement.{statement}
+use Rattle.config.proofs.inner.put_config.Tie as tie
 
 returns : tie.Need-returns
 returns c =

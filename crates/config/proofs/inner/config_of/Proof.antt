@@ -1,10 +1,10 @@
--- `abi_encoding::config_of` meets its contract: five words are read at 0 to 4, which the test on the length allows, and given to the constructor and the two
+-- `config::inner::config_of` meets its contract: the words are read one by one, which the test on the length allows, and given to the constructor and the two
 -- setters, whose contracts are the definition `configOf`, one in the other.
 use native.Mathlib.Omega.{arith}
 use borrow.Author.Tests.{eqb-true}
 use borrow.Author.Needs.{needs}
-use Rattle.abi_encoding.proofs.config_of.Statement.{statement}
-use Rattle.abi_encoding.proofs.config_of.Tie as tie
+use Rattle.config.proofs.inner.config_of.Statement.{statement}
+use Rattle.config.proofs.inner.config_of.Tie as tie
 
 returns : tie.Need-returns
 returns c =
