@@ -58,7 +58,7 @@ module _ (c w s m : List ℕ) (t : List ℤ) where
       go true long Fine enough e =
           record {
             config = both (isConfig c) (eqb (length w) recordLength) long .0;
-            valid-is = not-false _ (if-fine (not (valid d)) 1 (first-fine (checkConfig d) _ enough .0));
+            valid-is = not-false _ (if-fine (not (valid d)) 1 refl (first-fine (checkConfig d) _ enough .0));
             leaves = λ i. lentMemory (cond (long i) (ofOutcome w (answered (enough i) before (fresh d))) (lent badEncoding w s m t));
           }
 

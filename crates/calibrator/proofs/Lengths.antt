@@ -1,6 +1,6 @@
 -- What is known of tables of the right lengths.
 use Prim.Native.Nat.{ℕ, _*_}
-use mathlib.Core.Path.{_≡_}
+use mathlib.Core.Path.{_≡_, refl}
 use mathlib.Core.Bool.{Bool, false, not, _||_}
 use lib.Dec.{eqb}
 use borrow.Author.Tests.{eqb-true, not-false}
@@ -33,7 +33,7 @@ pub tables-known : (c : MicroPriceConfig) (stay moved totals : ℕ) → checkTab
     → Valid c × (wrongLengths (states c) stay moved totals ≡ false)
 tables-known c stay moved totals e =
     let f = first-fine (checkConfig c) (refuseIf (wrongLengths (states c) stay moved totals) 7) e in
-    (valid-known c (not-false (valid c) (if-fine (not (valid c)) 1 (f .0))), if-fine (wrongLengths (states c) stay moved totals) 7 (f .1))
+    (valid-known c (not-false (valid c) (if-fine (not (valid c)) 1 refl (f .0))), if-fine (wrongLengths (states c) stay moved totals) 7 refl (f .1))
 
 -- where the configuration is valid, the lengths are left to judge
 pub lengths-judged : (c : MicroPriceConfig) (stay moved totals : ℕ) (v : Bool) → v ≡ valid c → not v ≡ false → (n : ℕ) → n ≡ states c

@@ -1,5 +1,5 @@
 -- One quote: what its event and its refusals come to.
-use Prim.Native.Nat.{ℕ, _+_, _≤_, _<_, _^_}
+use Prim.Native.Nat.{ℕ, _+_, _≤_, _<_}
 use mathlib.Core.Path.{_≡_, refl, sym, ap, _∙_}
 use mathlib.Core.Bool.{Bool, true, false, not, _||_, or-true}
 use mathlib.Core.List.{List}
@@ -8,6 +8,7 @@ use lib.IntN.{ℤ, pos}
 use lib.ListN.{length, replicate}
 use borrow.Author.Tests.{ltb-false, not-false, not-true}
 use Rattle.basics.proofs.Tests.{zero-not-one}
+use Rattle.basics.specs.Domain.{counterLimit}
 use Rattle.refusals.specs.Refusals.{refuseIf, firstOf, refusal}
 use Rattle.refusals.specs.declared.Check.{Check}
 use Rattle.refusals.specs.declared.Check.the-variants.{Fine, Refused}
@@ -32,7 +33,7 @@ use Rattle.quotes.proofs.Ticks.{half-ticks-most}
 use Rattle.tally.specs.Entries.{Tables, tables, enterBoth, touchedOver}
 use Rattle.tally.specs.Inner.{forthOf, backOf, Placed}
 use Rattle.tally.specs.Events.{skip}
-use Rattle.tally.specs.Limits.{counterLimit, overCounter}
+use Rattle.tally.specs.Limits.{overCounter}
 use Rattle.tally.specs.Rules.{Memory}
 use Rattle.tally.specs.declared.PairEntry.{PairEntry}
 use Rattle.calibrator.specs.Record.{kindOf, countsOf, memory}
@@ -54,7 +55,7 @@ pub pair-known : (c : MicroPriceConfig) (p q : TopOfBook) → judgePair c p q �
 pair-known c p q e =
     let a = first-fine (refuseIf (broken c (Quoted p)) 8) (firstOf (checkQuote c q) (refuseIf (earlier (Quoted p) q) 5)) e in
     let b = first-fine (checkQuote c q) (refuseIf (earlier (Quoted p) q) 5) (a .1) in
-    (fine-known c p (not-refused (checkQuote c p) (if-fine _ 8 (a .0))), fine-known c q (b .0), ltb-false _ _ (if-fine _ 5 (b .1)))
+    (fine-known c p (not-refused (checkQuote c p) (if-fine _ 8 refl (a .0))), fine-known c q (b .0), ltb-false _ _ (if-fine _ 5 refl (b .1)))
 
 -- both quotes fine, the times are left to judge
 pub times-judged : (c : MicroPriceConfig) (p q : TopOfBook) (j k : Check) → j ≡ checkQuote c p → j ≡ Fine → k ≡ checkQuote c q → k ≡ Fine
@@ -100,7 +101,7 @@ pub past-limit : (b over : Bool) → b ≡ not over → b ≡ false → over ≡
 past-limit b over e f = not-false over (sym e ∙ f)
 
 -- a counter that may be added to
-pub may-add : (n : ℕ) (b : Bool) → b ≡ not (overCounter (n + 1)) → b ≡ true → n < 2 ^ 52
+pub may-add : (n : ℕ) (b : Bool) → b ≡ not (overCounter (n + 1)) → b ≡ true → n < counterLimit
 may-add n b e f = omega (arith, ltb-false counterLimit (n + 1) (within-limit b (overCounter (n + 1)) e f))
 
 -- ---- the ways through new
@@ -168,7 +169,7 @@ module _ (c : MicroPriceConfig) (l : Previous) (k : Counters) (s m : List ℕ) (
     pub way-skip-limit : b ≡ false → (d : Done) → d ≡ limited held → outcome (d .answer) (d .next) s m t ≡ countedAs c before q (skip (kindOf x))
     way-skip-limit y d g = rw g (go x (rw n-is at (past-limit b (overCounter (n + 1)) b-is y)))
       where
-        go : (x : Skip) → overCounter (skipCount k x + 1) ≡ true → outcome (Refused (refusal 6)) held s m t ≡ countedAs c before q (skip (kindOf x))
+        go : (x : Skip) → overCounter (skipCount k x + 1) ≡ true → outcome (refusal 6) held s m t ≡ countedAs c before q (skip (kindOf x))
         go Gap e = rw e
         go Spread e = rw e
 
@@ -181,7 +182,7 @@ module _ (c : MicroPriceConfig) (l : Previous) (k : Counters) (s m : List ℕ) (
     after = enterBoth (states c) (forthOf e) (backOf e) (tables s m t)
 
     limit-is : (overCounter (k .pairs + 1) || touchedOver (states c) (forthOf e) (backOf e) after) ≡ true
-        → outcome (Refused (refusal 6)) held s m t ≡ countedAs c before q (eventFrom (Counted p))
+        → outcome (refusal 6) held s m t ≡ countedAs c before q (eventFrom (Counted p))
     limit-is x = rw (← w .from-at .mirrors, ← w .to-at .mirrors, x)
 
     -- the counter of pairs is full

@@ -3,6 +3,7 @@
 use Prim.Native.Nat.{ℕ, _+_, _≤_, max}
 use mathlib.Core.List.{List}
 use lib.IntN.{ℤ, natAbs}
+use Rattle.basics.specs.Domain.{mostHalfTicks}
 use Rattle.tally.specs.Totals.{change}
 use Rattle.refusals.specs.Refusals.{refusal, refuseIf}
 use Rattle.refusals.specs.declared.Check.{Check}
@@ -63,7 +64,7 @@ abbrev pub accepted : Counters → TopOfBook → Done
 accepted k q = record { answer = Fine; next = record { previous = Quoted q; counters = k } }
 
 abbrev pub limited : Record → Done
-limited r = record { answer = Refused (refusal 6); next = r }
+limited r = record { answer = refusal 6; next = r }
 
 -- a refusal, or what follows
 abbrev pub pickDone : Check → Record → Done → Done
@@ -89,8 +90,8 @@ entryOf p =
 pub record Countable (c : MicroPriceConfig) (p : Pair) : Type 0 where
   pub from-at : Located c (p .from)
   pub to-at : Located c (p .to)
-  pub mid-from-most : p .«mid_from» ≤ 2000000000
-  pub mid-to-most : p .«mid_to» ≤ 2000000000
+  pub mid-from-most : p .«mid_from» ≤ mostHalfTicks
+  pub mid-to-most : p .«mid_to» ≤ mostHalfTicks
 
 abbrev pub judgePair : MicroPriceConfig → TopOfBook → TopOfBook → Check
 judgePair c p q = judgeAfter c (Quoted p) q

@@ -13,11 +13,12 @@ use refusals::Refusal;
 use tally::PairEntry;
 ghost use mathlib.Core.Path.{_≡_};
 ghost use mathlib.Core.Bool.{false};
-ghost use Prim.Native.Nat.{ℕ, _+_, _*_, _≤_, _<_, _^_};
+ghost use Prim.Native.Nat.{ℕ, _+_, _*_, _≤_, _<_};
 ghost use lib.ListN.{length, replicate};
 ghost use lib.IntN.{ℤ, pos};
 ghost use mathlib.Core.List.{List};
 ghost use Rattle.basics.specs.Loan.{given, final};
+ghost use Rattle.basics.specs.Domain.{counterLimit};
 ghost use Rattle.config.specs.Configuration.{states};
 ghost use Rattle.config.specs.Inner.{Valid};
 ghost use Rattle.quotes.specs.Neighbours.{neighboursOf};
@@ -109,7 +110,7 @@ fn skip_count(counters: Counters, kind: Skip) -> u64
 }
 
 fn with_skip(counters: Counters, kind: Skip) -> Counters
-    requires { ⌜ skipCount counters kind < 2 ^ 52 ⌝ }
+    requires { ⌜ skipCount counters kind < counterLimit ⌝ }
     ensures { λ r. ⌜ r ≡ addSkip counters kind ⌝ }
 {
     let mut next = counters;
@@ -125,7 +126,7 @@ fn with_skip(counters: Counters, kind: Skip) -> Counters
 }
 
 fn with_pair(counters: Counters, e: PairEntry) -> Counters
-    requires { ⌜ counters .pairs < 2 ^ 52 ⌝ }
+    requires { ⌜ counters .pairs < counterLimit ⌝ }
     ensures { λ r. ⌜ r ≡ addPair counters e ⌝ }
 {
     let mut next = counters;

@@ -7,10 +7,11 @@ use native.Mathlib.Omega.{arith}
 use native.Mathlib.Nat.{le-mul-of-pos-right, mul-comm}
 use lib.Dec.{leb, eqb}
 use borrow.Author.Tests.{leb-true, eqb-true}
-use Rattle.config.specs.Configuration.{most, shape, valid}
+use Rattle.config.specs.Configuration.{shape, valid}
 use Rattle.config.specs.Inner.{Valid}
 use Rattle.config.specs.declared.MicroPriceConfig.{MicroPriceConfig}
 use Rattle.basics.proofs.Tests.{both, fails}
+use Rattle.basics.specs.Domain.{most}
 
 record Shaped (n s : ℕ) : Type 0 where
   n-least : 3 ≤ n

@@ -4,14 +4,11 @@ use mathlib.Core.Bool.{Bool, not, _&&_}
 use mathlib.Core.List.{List, [], _∷_}
 use lib.Dec.{leb, eqb}
 use lib.ListN.{length, getD}
+use Rattle.basics.specs.Domain.{most}
 use Rattle.basics.specs.Lists.{sameWords}
 use Rattle.refusals.specs.Refusals.{refuseIf}
 use Rattle.refusals.specs.declared.Check.{Check}
 use Rattle.config.specs.declared.MicroPriceConfig.{MicroPriceConfig}
-
--- the largest price, size and tick of the domain
-abbrev pub most : ℕ
-most = 1000000000
 
 -- tick, buckets and spread states alone take the defaults 100 and 60,000
 abbrev pub newConfig : ℕ → ℕ → ℕ → MicroPriceConfig

@@ -1,7 +1,8 @@
 -- For the contracts and proofs of inner functions alone: what is known of a valid configuration, as facts on numbers. The law valid-known gives them.
 use Prim.Native.Nat.{_%_, _≤_}
 use mathlib.Core.Path.{_≡_}
-use Rattle.config.specs.Configuration.{most, states}
+use Rattle.basics.specs.Domain.{most}
+use Rattle.config.specs.Configuration.{states}
 use Rattle.config.specs.declared.MicroPriceConfig.{MicroPriceConfig}
 
 pub record Valid (c : MicroPriceConfig) : Type 0 where

@@ -1,5 +1,6 @@
 // Inner functions: for the crates above, not for users. Where one has a `requires`, each caller proves it.
 use super::MicroPriceConfig;
+use basics::DOMAIN;
 ghost use mathlib.Core.Path.{_≡_};
 ghost use mathlib.Core.Bool.{true};
 ghost use Rattle.basics.specs.Loan.{given, final};
@@ -8,9 +9,6 @@ ghost use Rattle.config.specs.Inner.{Valid};
 
 // Most states.
 const MAX_STATES: u64 = 256;
-
-// The largest price, size and tick.
-pub const DOMAIN: u64 = 1_000_000_000;
 
 // The two early answers keep the product within a word.
 fn is_shape(n: u64, s: u64) -> bool

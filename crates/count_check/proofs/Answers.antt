@@ -1,5 +1,5 @@
 -- What the check's answers rest on: a cell and its mirror's, mirrors of states alone, a table of mirrors, and the parts of 6.
-use Prim.Native.Nat.{ℕ, _+_, _*_, _≤_, _<_, _^_}
+use Prim.Native.Nat.{ℕ, _+_, _*_, _≤_, _<_}
 use mathlib.Core.Path.{_≡_, ap, _∙_}
 use mathlib.Core.Bool.{Bool, false, not, _&&_, _||_, or-false, or-assoc}
 use mathlib.Core.List.{List}
@@ -8,6 +8,7 @@ use lib.ListN.{length, getD}
 use borrow.Author.Tests.{ltb-false}
 use Rattle.basics.specs.Lists.{any}
 use Rattle.basics.proofs.Tests.{neither}
+use Rattle.basics.specs.Domain.{counterLimit}
 use Rattle.refusals.specs.Refusals.{refuseIf, firstOf}
 use Rattle.refusals.specs.declared.Check.{Check}
 use Rattle.config.specs.Configuration.{states}
@@ -57,12 +58,12 @@ stored-is k t =
     let d = overCounter (k .«skipped_gap_pairs») in
     rw (or-false d, or-assoc a b d)
 
-pub pairs-most : (k : Counters) → countersOver k ≡ false → k .pairs ≤ 2 ^ 52
+pub pairs-most : (k : Counters) → countersOver k ≡ false → k .pairs ≤ counterLimit
 pairs-most k e =
     let a = overCounter (k .pairs) in
     let b = overCounter (k .«skipped_spread_pairs») in
     let d = overCounter (k .«skipped_gap_pairs») in
-    ltb-false (2 ^ 52) (k .pairs) (neither a b (neither (a || b) d e .0) .0)
+    ltb-false counterLimit (k .pairs) (neither a b (neither (a || b) d e .0) .0)
 
 -- the table of a configuration's mirrors
 pub mirrors-known : (c : MicroPriceConfig) (ms : List ℕ) → Valid c → 256 ≤ length ms

@@ -9,7 +9,8 @@ use mir.Syntax.{w64}
 use mir.Val.{SFits}
 use borrow.Author.Tests.{le-leb, lt-leb, eq-eqb, ne-eqb, leb-true, eqb-true, eqb-false}
 use Rattle.basics.proofs.Tests.{same-test}
-use Rattle.tally.specs.Totals.{cellLimit, within}
+use Rattle.basics.specs.Domain.{cellLimit}
+use Rattle.tally.specs.Totals.{within}
 use Rattle.image_words.specs.Words.{twos}
 use Rattle.image_words.specs.Inner.{WordOf}
 use Rattle.tally.specs.Entries.{overTotal}
@@ -26,10 +27,10 @@ eqb-iff a b c d f g =
 
 within-word : (z : ℤ) → SFits w64 z → withinWord (twos z) ≡ within z
 within-word (pos n) s =
-    rw (lt-leb 18437736874454810624 n (omega (arith, s .sfits))) (or-false (leb n 9007199254740992))
+    rw (lt-leb (2 ^ 64 - cellLimit) n (omega (arith, s .sfits))) (or-false (leb n cellLimit))
 within-word (negsuc k) s =
-    rw (lt-leb (2 ^ 64 - suc k) 9007199254740992 (omega (arith, s .sfits)))
-    (leb-iff 18437736874454810624 (2 ^ 64 - suc k) (suc k) cellLimit (λ h. omega (arith, s .sfits)) (λ h. omega (arith, s .sfits)))
+    rw (lt-leb (2 ^ 64 - suc k) cellLimit (omega (arith, s .sfits)))
+    (leb-iff (2 ^ 64 - cellLimit) (2 ^ 64 - suc k) (suc k) cellLimit (λ h. omega (arith, s .sfits)) (λ h. omega (arith, s .sfits)))
 
 pub over-is : (z : ℤ) (w : ℕ) (r : Bool) → WordOf w z → r ≡ withinWord w → overTotal z ≡ not r
 over-is z w r p e = ap not (sym (e ∙ ap withinWord (p .is) ∙ within-word z (p .fits)))

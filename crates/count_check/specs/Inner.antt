@@ -1,11 +1,12 @@
 -- For the contracts and proofs of inner functions alone: where a table stands, in a lent slice or in a part of an image's bytes. Only the readers of a cell and
 -- of a total know.
-use Prim.Native.Nat.{ℕ, _*_, _-_, _/_, _≤_, _<_}
+use Prim.Native.Nat.{ℕ, _+_, _*_, _-_, _/_, _^_, _≤_, _<_}
 use mathlib.Core.Bool.{Bool, false, not, _||_, _&&_, true, cond}
 use mathlib.Core.List.{List, map}
 use lib.Dec.{eqb, leb}
 use lib.IntN.{ℤ}
 use lib.ListN.{getD, length}
+use Rattle.basics.specs.Domain.{counterLimit, cellLimit}
 use Rattle.tally.specs.Entries.{Tables, tables}
 use Rattle.tally.specs.Limits.{overCounter}
 use Rattle.calibrator.specs.declared.Counters.{Counters}
@@ -42,9 +43,13 @@ pub record Mirrors (n : ℕ) (ms : List ℕ) : Type 0 where
   pub enough : n ≤ length ms
   pub below : (i : ℕ) → i < n → getD ms i 0 < n
 
+-- where sums are cut off: over twice any number of pairs within its limit
+abbrev pub sumCap : ℕ
+sumCap = 2 * counterLimit + 1
+
 -- the tests on a total, made on its word
 abbrev pub withinWord : ℕ → Bool
-withinWord w = leb w 9007199254740992 || leb 18437736874454810624 w
+withinWord w = leb w cellLimit || leb (2 ^ 64 - cellLimit) w
 
 abbrev pub oppositeWords : ℕ → ℕ → Bool
 oppositeWords a b = cond (eqb a 0) (eqb b 0) (not (eqb a 9223372036854775808) && eqb b (18446744073709551615 - (a - 1)))

@@ -1,5 +1,7 @@
 // The check of counts against their mirrors (document 01, "The fit": 6, 9, 10, 11), of tables that lie in lent slices or in an image.
 // Inner functions: for the crates above, not for users. Where one has a `requires`, each caller proves it.
+use basics::CELL_LIMIT;
+use basics::COUNTER_LIMIT;
 use calibrator::Counters;
 use config::MicroPriceConfig;
 use refusals::Check;
@@ -7,11 +9,12 @@ use refusals::Refusal;
 ghost use mathlib.Core.Path.{_≡_};
 ghost use mathlib.Core.Bool.{true, false};
 ghost use mathlib.Core.List.{[]};
-ghost use Prim.Native.Nat.{ℕ, _+_, _*_, _≤_, _<_, _^_, min};
+ghost use Prim.Native.Nat.{ℕ, _+_, _*_, _≤_, _<_, min};
 ghost use lib.IntN.{pos};
 ghost use lib.ListN.{length, getD};
 ghost use Rattle.basics.specs.Loan.{given};
 ghost use Rattle.basics.specs.Lists.{any, sum};
+ghost use Rattle.basics.specs.Domain.{counterLimit};
 ghost use Rattle.refusals.specs.Refusals.{firstFrom};
 ghost use Rattle.config.specs.Configuration.{states};
 ghost use Rattle.config.specs.Inner.{Valid};
@@ -20,7 +23,13 @@ ghost use Rattle.image_words.specs.Inner.{WordOf};
 ghost use Rattle.tally.specs.Entries.{tables, overTotal};
 ghost use Rattle.calibrator.specs.Record.{countsOf};
 ghost use Rattle.count_check.specs.Mirrors.{totalMirrored, cellsAlike, rowMirrored, checkState, isTwice, checkCounts, checkMirrored};
-ghost use Rattle.count_check.specs.Inner.{countersOver, cellsIn, totalsIn, tablesIn, HasTable, HasTables, Mirrors, withinWord, oppositeWords};
+ghost use Rattle.count_check.specs.Inner.{countersOver, cellsIn, totalsIn, tablesIn, HasTable, HasTables, Mirrors, sumCap, withinWord, oppositeWords};
+
+// The word of the least total, 2^64 − 2^53.
+const LEAST_TOTAL: u64 = u64::MAX - (CELL_LIMIT - 1);
+
+// Where sums are cut off: over twice any number of pairs within its limit.
+const SUM_CAP: u64 = 2 * COUNTER_LIMIT + 1;
 
 // Cell i of a table, from the slice or, if imaged, from the bytes.
 fn cell_in(t: &[u64], b: &[u8], imaged: bool, n: usize, i: usize) -> u64
@@ -47,7 +56,7 @@ fn total_in(t: &[i64], b: &[u8], imaged: bool, n: usize, i: usize) -> u64
 fn is_within_word(w: u64) -> bool
     ensures { λ r. ⌜ r ≡ withinWord w ⌝ }
 {
-    (w <= 9007199254740992) | (18437736874454810624 <= w)
+    (w <= CELL_LIMIT) | (LEAST_TOTAL <= w)
 }
 
 fn are_opposite(a: u64, b: u64) -> bool
@@ -82,23 +91,23 @@ fn total_mirrored(t: &[i64], b: &[u8], imaged: bool, n: usize, i: usize, m: usiz
     are_opposite(x, y)
 }
 
-// A sum, or 2^53 + 1 where it is more than that.
+// A sum, or the cap where it is more than that.
 fn add_capped(a: u64, x: u64) -> u64
-    requires { ⌜ a ≤ 9007199254740993 ⌝ }
-    ensures { λ r. ⌜ r ≡ min 9007199254740993 (a + x) ⌝ }
+    requires { ⌜ a ≤ sumCap ⌝ }
+    ensures { λ r. ⌜ r ≡ min sumCap (a + x) ⌝ }
 {
-    if 9007199254740992 < x {
-        return 9007199254740993;
+    if SUM_CAP <= x {
+        return SUM_CAP;
     }
-    if 9007199254740992 < a + x {
-        return 9007199254740993;
+    if SUM_CAP <= a + x {
+        return SUM_CAP;
     }
     a + x
 }
 
 fn sum_capped(t: &[u64], b: &[u8], imaged: bool, n: usize) -> u64
     requires { ⌜ HasTable imaged n (length (now t)) (length (now b)) ⌝ }
-    ensures { λ r. ⌜ r ≡ min 9007199254740993 (sum (cellsIn imaged (given t) (given b))) ⌝ }
+    ensures { λ r. ⌜ r ≡ min sumCap (sum (cellsIn imaged (given t) (given b))) ⌝ }
 {
     let mut a: u64 = 0;
     let mut i: usize = 0;
@@ -109,7 +118,7 @@ fn sum_capped(t: &[u64], b: &[u8], imaged: bool, n: usize) -> u64
     a
 }
 
-// Both sums are capped: twice the pairs is at most 2^53.
+// Both sums are capped: twice the pairs is below the cap.
 fn is_twice(
     pairs: u64,
     stay: &[u64],
@@ -119,7 +128,7 @@ fn is_twice(
     imaged: bool,
     cells: usize,
 ) -> bool
-    requires { ⌜ (pairs ≤ 2 ^ 52) × HasTable imaged cells (length (now stay)) (length (now sb)) × HasTable imaged cells (length (now moved)) (length (now mb)) ⌝ }
+    requires { ⌜ (pairs ≤ counterLimit) × HasTable imaged cells (length (now stay)) (length (now sb)) × HasTable imaged cells (length (now moved)) (length (now mb)) ⌝ }
     ensures { λ r. ⌜ r ≡ isTwice pairs (tables (cellsIn imaged (given stay) (given sb)) (cellsIn imaged (given moved) (given mb)) []) ⌝ }
 {
     let a = sum_capped(stay, sb, imaged, cells);
@@ -230,9 +239,9 @@ fn check_states(
 fn counters_over(k: Counters) -> bool
     ensures { λ r. ⌜ r ≡ countersOver k ⌝ }
 {
-    (4503599627370496 < k.pairs)
-        | (4503599627370496 < k.skipped_spread_pairs)
-        | (4503599627370496 < k.skipped_gap_pairs)
+    (COUNTER_LIMIT < k.pairs)
+        | (COUNTER_LIMIT < k.skipped_spread_pairs)
+        | (COUNTER_LIMIT < k.skipped_gap_pairs)
 }
 
 // The check of n states with their mirrors. The tables are the slices or, if imaged, those of the bytes.

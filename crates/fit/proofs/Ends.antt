@@ -22,6 +22,7 @@ use Rattle.fit_system.specs.Rows.{used}
 use Rattle.fit_system.specs.Inner.{Marks, checkOf, StandsIn, SolvedIn}
 use Rattle.fit_system.specs.Solution.{Solution, solution, unsolved, solutionOf}
 use Rattle.fit_system.proofs.Filling.{used-number}
+use Rattle.fit_system.proofs.Solving.{SolvedOrRefused, solved-or-refused}
 use Rattle.fit_estimates.specs.Estimates.{Given, estimateOf, estimate, representable}
 use Rattle.fit.specs.Fit.{Fit, fitted, refused, judgedRows, fitFrom, fitOf, tableOf, fitAnswer, modelAfter}
 use Rattle.fit.specs.Inner.{rowsIn, FitEnds}
@@ -130,11 +131,12 @@ module _ (rounds moves : ℕ) (G : Given) (t : List ℕ) where
         pub same : (k : ℕ) → k < G .cells .states → rowsIn (G .cells .states) G l k ≡ rows k
 
       solved-rows : Rows
-      solved-rows = go (solutionOf rounds moves (G .cells) (G .total)) goes (s .answers) (s .stands)
+      solved-rows =
+          go (solutionOf rounds moves (G .cells) (G .total)) (solved-or-refused rounds moves (G .cells) (G .total)) goes (s .answers) (s .stands)
         where
-          go : (x : Solution) → fitOf rounds moves G ≡ fitFrom G x → Fine ≡ checkOf x → StandsIn (G .cells .states) x l → Rows
-          go (unsolved k) f e st = absurd (zero-not-one cc)
-          go (solution G1 sum share) f e st =
+          go : (x : Solution) → SolvedOrRefused x → fitOf rounds moves G ≡ fitFrom G x → Fine ≡ checkOf x → StandsIn (G .cells .states) x l → Rows
+          go (unsolved k) r f e st = absurd (r (sym e))
+          go (solution G1 sum share) r f e st =
               record {
                 rows = estimate G G1 sum share;
                 fit-is = f;

@@ -11,7 +11,7 @@ use lib.Ieee.{Float, add, sub, mul, div, neg, lt, le, eq, isNan, round, ofBits, 
 use Rattle.basics.specs.Lists.{square}
 use Rattle.floats.specs.Floats.{posZero, one, abs, asGreat, max, isInfinite, clamp, plusZero, half}
 use Rattle.refusals.specs.Refusals.{refusal}
-use Rattle.refusals.specs.declared.Check.the-variants.{Fine, Refused}
+use Rattle.refusals.specs.declared.Check.the-variants.{Fine}
 use Rattle.config.specs.Configuration.{newConfig, withMinStateObservations, withMaxQuoteGapMs, states}
 use Rattle.config.specs.declared.MicroPriceConfig.{MicroPriceConfig}
 use Rattle.quotes.proofs.Marked.{marked}
@@ -67,7 +67,7 @@ abbrev pub succeeds : ℕ → List ℕ → FitOutcome
 succeeds N model = endFit Fine model (replicate (N * (2 * N + 10)) posZero)
 
 abbrev pub failsWith : ℕ → ℕ → FitOutcome
-failsWith N k = endFit (Refused (refusal k)) (nines N) (replicate (N * (2 * N + 10)) posZero)
+failsWith N k = endFit (refusal k) (nines N) (replicate (N * (2 * N + 10)) posZero)
 
 -- bucket, spread, observations, bits of first adjustment, adjustment and share, status
 abbrev row : ℕ → ℕ → ℕ → ℕ → ℕ → ℕ → ℕ → List ℕ

@@ -1,6 +1,6 @@
 -- What is known where nothing before 16 refuses.
-use Prim.Native.Nat.{ℕ, _+_, _*_, _≤_, _<_, _^_}
-use mathlib.Core.Path.{_≡_, sym, ap, _∙_}
+use Prim.Native.Nat.{ℕ, _+_, _*_, _≤_, _<_}
+use mathlib.Core.Path.{_≡_, refl, sym, ap, _∙_}
 use mathlib.Core.Bool.{true, false, not, _||_}
 use mathlib.Core.List.{List}
 use native.Mathlib.Omega.{arith}
@@ -9,10 +9,11 @@ use lib.Dec.{eqb}
 use lib.IntN.{ℤ, pos, negsuc, natAbs}
 use lib.ListN.{length, getD, replicate}
 use lib.Ieee.{Float, binary64, inFloat}
-use Rattle.floats.specs.Floats.{posZero}
+use Rattle.floats.specs.Floats.{posZero, exactWhole}
 use Rattle.basics.specs.Lists.{any, sum}
 use Rattle.basics.proofs.Tests.{both, neither}
 use Rattle.basics.proofs.Anys.{none-at}
+use Rattle.basics.specs.Domain.{counterLimit, cellLimit}
 use Rattle.refusals.specs.Refusals.{refuseIf, firstOf, firstFrom}
 use Rattle.refusals.specs.declared.Check.{Check}
 use Rattle.refusals.specs.declared.Check.the-variants.{Fine, Refused}
@@ -43,8 +44,8 @@ use Rattle.fit.proofs.Ends.{ends-same}
 -- a total within its limit is exact as a float
 total-exact : (z : ℤ) → overTotal z ≡ false → inFloat binary64 z ≡ true
 unfolding inFloat
-total-exact (pos n) e = le-leb n (2 ^ 53) (leb-true n (2 ^ 53) (not-false _ e))
-total-exact (negsuc n) e = lt-ltb n (2 ^ 53) (leb-true (natAbs (negsuc n)) (2 ^ 53) (not-false _ e))
+total-exact (pos n) e = le-leb n exactWhole (leb-true n cellLimit (not-false _ e))
+total-exact (negsuc n) e = lt-ltb n exactWhole (leb-true (natAbs (negsuc n)) cellLimit (not-false _ e))
 
 pub record Fittable (c : MicroPriceConfig) (m : Memory Previous) (scratch model : ℕ) : Type 0 where
   pub conf : Valid c
@@ -64,7 +65,7 @@ fit-known c m scratch model e =
     let b = first-fine (refuseIf (wrongFitLengths (states c) scratch model) 7) (checkMirrored c (m .counts)) (a .1) in
     let r = tables-known c s d t (a .0) in
     let z = lengths-known (states c) s d t (r .1) in
-    let w = neither (not (eqb scratch (states c * (2 * states c + 10)))) (not (eqb model (7 * states c))) (if-fine _ 7 (b .0)) in
+    let w = neither (not (eqb scratch (states c * (2 * states c + 10)))) (not (eqb model (7 * states c))) (if-fine _ 7 refl (b .0)) in
     record {
       conf = r .0;
       stay-cells = z .stay-cells;
@@ -75,9 +76,9 @@ fit-known c m scratch model e =
       mirrored = b .1;
     }
 
--- 6 and 11: the cells together are at most 2^53, each total within its limit
+-- 6 and 11: the cells together are at most twice the limit of pairs, each total within its limit
 pub record Limited (k : Counts) : Type 0 where
-  pub cells-most : sum (k .tables .stay) + sum (k .tables .moved) ≤ 2 ^ 53
+  pub cells-most : sum (k .tables .stay) + sum (k .tables .moved) ≤ 2 * counterLimit
   pub totals-most : any overTotal (k .tables .totals) ≡ false
 
 pub limited-of : (c : MicroPriceConfig) (k : Counts) → checkMirrored c k ≡ Fine → Limited k
@@ -85,9 +86,9 @@ limited-of c k e =
     let walk = firstFrom (checkState (states c) (mirrorOf (c .«imbalance_buckets»)) (k .tables)) 0 (states c) in
     let a = first-fine (refuseIf (storedOver k) 6) (firstOf walk (refuseIf (not (isTwice (k .pairs) (k .tables))) 11)) e in
     let b = first-fine walk (refuseIf (not (isTwice (k .pairs) (k .tables))) 11) (a .1) in
-    let o = neither (overCounter (k .pairs) || any overCounter (k .skips)) (any overTotal (k .tables .totals)) (if-fine _ 6 (a .0)) in
-    let p = ltb-false (2 ^ 52) (k .pairs) (neither (overCounter (k .pairs)) (any overCounter (k .skips)) (o .0) .0) in
-    let t = eqb-true (sum (k .tables .stay) + sum (k .tables .moved)) (2 * k .pairs) (not-false _ (if-fine _ 11 (b .1))) in
+    let o = neither (overCounter (k .pairs) || any overCounter (k .skips)) (any overTotal (k .tables .totals)) (if-fine _ 6 refl (a .0)) in
+    let p = ltb-false counterLimit (k .pairs) (neither (overCounter (k .pairs)) (any overCounter (k .skips)) (o .0) .0) in
+    let t = eqb-true (sum (k .tables .stay) + sum (k .tables .moved)) (2 * k .pairs) (not-false _ (if-fine _ 11 refl (b .1))) in
     record { cells-most = omega arith; totals-most = o .1 }
 
 -- 10: the cells equal their mirrors'
@@ -125,7 +126,7 @@ mirrored-of {c} {m} f =
     cells i j hi hj =
         let row = first-fine (refuseIf (not (totalMirrored (k .tables .totals) i (mirror i))) 9) (refuseIf (not (rowMirrored N mirror (k .tables) i)) 10)
         (walked i hi) .1 in
-        both _ _ (all-at (cellMirrored N mirror (k .tables) i) 0 N j (not-false _ (if-fine _ 10 row)) (omega arith) (omega arith))
+        both _ _ (all-at (cellMirrored N mirror (k .tables) i) 0 N j (not-false _ (if-fine _ 10 refl row)) (omega arith) (omega arith))
 
 pub exact-of : {c : MicroPriceConfig} {m : Memory Previous} {scratch model : ℕ} → Fittable c m scratch model
     → Exact (states c) (m .counts .tables .stay) (m .counts .tables .moved) (m .counts .tables .totals)

@@ -1,6 +1,6 @@
 -- The table that a fit writes: its rows are the fit's, those of mirrored states are opposite, and a Calibrated row lies inside the quotes. The numbers of a
 -- fit's refusals.
-use Prim.Native.Nat.{ℕ, zero, suc, _+_, _*_, _^_, _≤_, _<_}
+use Prim.Native.Nat.{ℕ, zero, suc, _+_, _*_, _≤_, _<_}
 use mathlib.Core.Path.{_≡_, refl, sym, ap, subst, _∙_}
 use mathlib.Core.Bool.{Bool, true, false, not, cond}
 use mathlib.Core.List.{List}
@@ -18,11 +18,11 @@ use lib.Ieee.Bits.{ofBits-fits}
 use lib.Ieee.Fits.{down-pos, add-fits, cond-fits}
 use lib.Ieee.Scale.{finite}
 use Rattle.basics.proofs.Tests.{zero-not-one}
-use Rattle.floats.specs.Floats.{posZero, one, abs, half, halfSpread, clamp}
+use Rattle.floats.specs.Floats.{posZero, one, abs, half, halfSpread, clamp, exactWhole}
 use Rattle.floats.proofs.Signs.{abs-plus, plus-finite}
 use Rattle.floats.proofs.Whole.{half-exact}
 use Rattle.floats.proofs.Within.{value-finite, values-le}
-use Rattle.refusals.specs.Refusals.{numberOf, refusal}
+use Rattle.refusals.specs.Refusals.{numberOf, refusal, checkNumber}
 use Rattle.refusals.specs.declared.Check.{Check}
 use Rattle.refusals.specs.declared.Check.the-variants.{Fine, Refused}
 use Rattle.refusals.specs.declared.Refusal.{Refusal}
@@ -66,7 +66,7 @@ record Clamped (x : Float) : Type 0 where
 -- the shares are such, or the number is 16 to 19
 abbrev Kept : Solution → Type 0
 Kept (solution G1 sum share) = (i : ℕ) → Clamped (share i)
-Kept (unsolved k) = (16 ≤ numberOf (refusal k)) × (numberOf (refusal k) ≤ 19)
+Kept (unsolved k) = (16 ≤ checkNumber (refusal k)) × (checkNumber (refusal k) ≤ 19)
 
 clamp-fits : (x : Float) → T (fits binary64 x) → T (fits binary64 (clamp x))
 unfolding clamp
@@ -112,7 +112,7 @@ record Found (G : Given) (f : Fit) : Type 0 where
 -- or the number of its refusal
 abbrev Ended : Given → Fit → Type 0
 Ended G (fitted rows) = Found G (fitted rows)
-Ended G (refused k) = (16 ≤ numberOf (refusal k)) × (numberOf (refusal k) ≤ 19)
+Ended G (refused k) = (16 ≤ checkNumber (refusal k)) × (checkNumber (refusal k) ≤ 19)
 
 judged-ended : (G : Given) (G1 sum share : ℕ → Float) → ((i : ℕ) → Clamped (share i)) → Ended G (judgedRows (G .cells .states) (estimate G G1 sum share))
 unfolding judgedRows
@@ -180,9 +180,9 @@ fine-parts (Refused r) n f t l e = absurd (zero-not-one cc)
 
 found-of : (G : Given) (f : Fit) → Ended G f → fitAnswer f ≡ Fine → Found G f
 found-of G (fitted rows) e a = e
-found-of G (refused k) e a = absurd (zero-not-one cc)
+found-of G (refused k) e a = let none : checkNumber (refusal k) ≡ 0 = ap checkNumber a in absurd (omega (arith, e .0))
 
-inside-of : (c : MicroPriceConfig) (i : ℕ) (x : Float) → c .«tick_size» * spreadIn (c .«imbalance_buckets») i < 2 ^ 53 → T (finite x)
+inside-of : (c : MicroPriceConfig) (i : ℕ) (x : Float) → c .«tick_size» * spreadIn (c .«imbalance_buckets») i < exactWhole → T (finite x)
     → T (le (abs x) (halfSpread (c .«tick_size») (spreadIn (c .«imbalance_buckets») i))) → Inside c i x
 unfolding abs
 inside-of c i nan w f h = absurd f
@@ -217,7 +217,7 @@ module _ (rounds moves : ℕ) (c : MicroPriceConfig) (m : Memory Previous) (t₀
     pub fit-valid : valid c ≡ true
     fit-valid =
         let enough = first-fine (checkMemory c m) _ (parts .0) .0 in
-        not-false (valid c) (if-fine (not (valid c)) 1 (first-fine (checkConfig c) _ enough .0))
+        not-false (valid c) (if-fine (not (valid c)) 1 refl (first-fine (checkConfig c) _ enough .0))
 
     known : Fittable c m (length l) (length t₀)
     known = fit-known c m (length l) (length t₀) (parts .0)
@@ -282,7 +282,7 @@ module _ (rounds moves : ℕ) (c : MicroPriceConfig) (m : Memory Previous) (t₀
     pub calibrated-inside : (i : ℕ) → i < states c → rowAt table i .status ≡ 0 → Inside c i (rowAt table i .adjustment)
     calibrated-inside i h z =
         let width = c .«tick_size» * spreadIn (c .«imbalance_buckets») i in
-        let w : width < 2 ^ 53 = omega (arith, width-most c (known .conf) i h) in
+        let w : width < exactWhole = omega (arith, width-most c (known .conf) i h) in
         let e = rows-are i h in
         let k = row-inside G (found .G1) (found .sum) (found .share) i (found .held i h) (value-finite (half width) false width 2 (half-exact width w))
         (sym (ap (λ (x : StateEstimate). x .status) e) ∙ z) in
@@ -296,6 +296,4 @@ module _ (rounds moves : ℕ) (c : MicroPriceConfig) (m : Memory Previous) (t₀
     where
       go : (f : Fit) → Ended G f → fitAnswer f ≡ Refused r → (16 ≤ numberOf r) × (numberOf r ≤ 19)
       go (fitted rows) d a = absurd (zero-not-one cc)
-      go (refused n) d a =
-          let q : refusal n ≡ r = cc in
-          subst (λ (x : Refusal). (16 ≤ numberOf x) × (numberOf x ≤ 19)) q d
+      go (refused n) d a = subst (λ (x : Check). (16 ≤ checkNumber x) × (checkNumber x ≤ 19)) a d

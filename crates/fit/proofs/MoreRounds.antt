@@ -35,14 +35,14 @@ module _ (r r′ moves : ℕ) (fewer : r ≤ r′) where
 
   -- the rounds of the share equal
   pub fit-more : (c : MicroPriceConfig) (m : Memory Previous) (model : List ℕ) (scratch : List Float)
-      → fittedWith r moves c m model scratch .answer ≢ Refused (refusal 18)
+      → fittedWith r moves c m model scratch .answer ≢ refusal 18
       → fittedWith r′ moves c m model scratch ≡ fittedWith r moves c m model scratch
   fit-more c m model scratch = go (fitRefusal c m (length scratch) (length model))
     where
       G : Given
       G = givenOf c (m .counts)
 
-      go : (k : Check) → fitUnless k (states c) (fitOf r moves G) model scratch .answer ≢ Refused (refusal 18)
+      go : (k : Check) → fitUnless k (states c) (fitOf r moves G) model scratch .answer ≢ refusal 18
           → fitUnless k (states c) (fitOf r′ moves G) model scratch ≡ fitUnless k (states c) (fitOf r moves G) model scratch
       go Fine h = ap (λ (f : Fit). fitUnless Fine (states c) f model scratch) (fit-of-more G (λ e. h (ap fitAnswer e)))
       go (Refused x) h = refl

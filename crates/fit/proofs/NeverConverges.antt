@@ -11,7 +11,7 @@ use Rattle.basics.specs.Lists.{tab}
 use Rattle.basics.proofs.Lists.{getD-tab}
 use Rattle.floats.specs.Floats.{posZero, abs, asGreat, max, isInfinite, tiny}
 use Rattle.refusals.specs.Refusals.{refusal}
-use Rattle.refusals.specs.declared.Check.the-variants.{Fine, Refused}
+use Rattle.refusals.specs.declared.Check.the-variants.{Fine}
 use Rattle.config.specs.Configuration.{newConfig, withMinStateObservations, withMaxQuoteGapMs}
 use Rattle.config.specs.declared.MicroPriceConfig.{MicroPriceConfig}
 use Rattle.tally.specs.Entries.{tables}
@@ -101,9 +101,9 @@ module _ (last : Previous) (model : List ℕ) (scratch : List Float) (enough : l
 
   -- with any number of rounds, of the series and of the share: scratch is all plus zero, the model table as it was
   pub refused-18 : (rounds moves : ℕ)
-      → fittedWith rounds moves config18 m model scratch ≡ endFit (Refused (refusal 18)) model (replicate (length scratch) posZero)
+      → fittedWith rounds moves config18 m model scratch ≡ endFit (refusal 18) model (replicate (length scratch) posZero)
   refused-18 rounds moves = λ j. fitUnless (fine-18 j) 6 (fit-18 rounds moves j) model scratch
 
   -- with document 01's 10,000 and 10
-  pub fit-refused-18 : fitCounts config18 m model scratch ≡ endFit (Refused (refusal 18)) model (replicate (length scratch) posZero)
+  pub fit-refused-18 : fitCounts config18 m model scratch ≡ endFit (refusal 18) model (replicate (length scratch) posZero)
   fit-refused-18 = refused-18 _ _

@@ -10,7 +10,7 @@ use lib.Ieee.{add, sub, mul, div, neg, lt, le, eq, isNan, round, ofBits, ofInt, 
 use Rattle.basics.proofs.Tests.{zero-not-one}
 use Rattle.floats.specs.Floats.{posZero, abs, asGreat, max, isInfinite, clamp, plusZero, half}
 use Rattle.refusals.specs.Refusals.{refusal}
-use Rattle.refusals.specs.declared.Check.the-variants.{Fine, Refused}
+use Rattle.refusals.specs.declared.Check.the-variants.{Fine}
 use Rattle.config.specs.Configuration.{newConfig, withMinStateObservations}
 use Rattle.config.specs.declared.MicroPriceConfig.{MicroPriceConfig}
 use Rattle.tally.specs.Entries.{tables}
@@ -51,7 +51,7 @@ withRounds rounds = fittedWith rounds 10 config39 memory39 (replicate 21 0) (rep
 
 -- 18: the model table as it was, scratch all plus zero
 abbrev pub refused39 : FitOutcome
-refused39 = endFit (Refused (refusal 18)) (replicate 21 0) (replicate 48 posZero)
+refused39 = endFit (refusal 18) (replicate 21 0) (replicate 48 posZero)
 
 -- a state a line: bucket, spread, observations, first adjustment, adjustment, share, status
 abbrev pub found39 : FitOutcome
@@ -72,9 +72,9 @@ with-38 = computed-39 .0
 pub from-39 : (rounds : ℕ) → 39 ≤ rounds → withRounds rounds ≡ found39
 from-39 rounds h = fit-more 39 rounds 10 h config39 memory39 (replicate 21 0) (replicate 48 posZero) not-18 ∙ computed-39 .1
   where
-    not-18 : withRounds 39 .answer ≢ Refused (refusal 18)
+    not-18 : withRounds 39 .answer ≢ refusal 18
     not-18 e =
-        let d : Fine ≡ Refused (refusal 18) = sym (ap (λ (o : FitOutcome). o .answer) (computed-39 .1)) ∙ e in
+        let d : Fine ≡ refusal 18 = sym (ap (λ (o : FitOutcome). o .answer) (computed-39 .1)) ∙ e in
         zero-not-one (cc d)
 
 -- with document 01's 10,000

@@ -91,7 +91,7 @@ endFit answer model scratch = record { answer = answer; model = model; scratch =
 -- the table is written only on success
 abbrev pub fitAnswer : Fit → Check
 fitAnswer (fitted rows) = Fine
-fitAnswer (refused k) = Refused (refusal k)
+fitAnswer (refused k) = refusal k
 
 abbrev pub modelAfter : ℕ → Fit → List ℕ → List ℕ
 modelAfter N (fitted rows) model = tableOf N rows

@@ -5,6 +5,7 @@ use mathlib.Core.List.{List}
 use lib.IntN.{ℤ}
 use lib.ListN.{length, getD}
 use lib.Ieee.{Float}
+use Rattle.basics.specs.Domain.{most}
 use Rattle.fit_marking.specs.Marks.{cellsOf, Fitting}
 use Rattle.fit_linear.specs.Inner.{from}
 use Rattle.fit_series.specs.Inner.{sumAt, shareAt, solvedG1}
@@ -34,7 +35,7 @@ pub record Usable (n buckets tick : ℕ) (stay moved mirrors : List ℕ) : Type 
   pub mirrors-long : n ≤ length mirrors
   pub mirrors-below : (i : ℕ) → i < n → getD mirrors i 0 < n
   pub some-buckets : 0 < buckets
-  pub tick-most : tick ≤ 1000000000
+  pub tick-most : tick ≤ most
 
 -- each state's estimate, from what stands in scratch
 abbrev pub rowsIn : ℕ → Given → List Float → ℕ → StateEstimate

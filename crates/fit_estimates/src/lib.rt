@@ -4,6 +4,7 @@ use model::StateEstimate;
 ghost use mathlib.Core.Path.{_≡_};
 ghost use mathlib.Core.Bool.{cond};
 ghost use Prim.Native.Nat.{_≤_};
+ghost use Rattle.basics.specs.Domain.{most};
 ghost use Rattle.floats.specs.Floats.{one};
 ghost use Rattle.model.specs.Status.{statusNumber};
 ghost use Rattle.model.specs.declared.StateStatus.{StateStatus};
@@ -20,7 +21,7 @@ pub struct Solved {
 }
 
 fn adjust(tick: u64, own: f64, mirrored: f64) -> f64
-    requires { ⌜ tick ≤ 1000000000 ⌝ }
+    requires { ⌜ tick ≤ most ⌝ }
     ensures { λ r. ⌜ r ≡ adjusted tick own mirrored ⌝ }
 {
     (own - mirrored) / 2.0 * floats::inner::half_tick(tick)
@@ -57,7 +58,7 @@ pub fn estimate_of(
     observed: u64,
     s: Solved,
 ) -> StateEstimate
-    requires { ⌜ (tick ≤ 1000000000) × (spread ≤ 256) ⌝ }
+    requires { ⌜ (tick ≤ most) × (spread ≤ 256) ⌝ }
     ensures { λ r. ⌜ ((m : StateStatus) → mark ≡ statusNumber m → r ≡ estimateOf tick bucket spread m observed s) ⌝ }
 {
     let adjustment = adjust(tick, s.own, s.mirrored);

@@ -2,29 +2,30 @@
 use mathlib.Core.Path.{_≡_, refl}
 use mathlib.Core.Bool.{true, false}
 use mathlib.Core.List.{List}
-use Prim.Native.Nat.{ℕ, _+_, _*_, _<_, _≤_, _^_}
+use Prim.Native.Nat.{ℕ, _+_, _*_, _<_, _≤_}
 use lib.ListN.{length}
 use native.Mathlib.Omega.{arith}
 use borrow.Author.Tests.{lt-ltb, le-ltb}
 use Rattle.basics.proofs.Tests.{row-in}
 use Rattle.fit_marking.specs.Below.{sumTo}
 use Rattle.basics.specs.Lists.{cellAt}
+use Rattle.basics.specs.Domain.{counterLimit}
 use Rattle.fit_marking.specs.Marks.{cellsOf, Fitting, observations}
 use Rattle.fit_marking.specs.Inner.{hasPositive, firstMark}
 use Rattle.fit_marking.proofs.Below.{part-below}
 
-pub row-fits : (n : ℕ) (stay moved : List ℕ) (x : ℕ) → Fitting n stay moved → x < n → sumTo n (cellAt n stay x) + sumTo n (cellAt n moved x) ≤ 2 ^ 53
+pub row-fits : (n : ℕ) (stay moved : List ℕ) (x : ℕ) → Fitting n stay moved → x < n → sumTo n (cellAt n stay x) + sumTo n (cellAt n moved x) ≤ 2 * counterLimit
 row-fits n stay moved x f h =
     let r = row-in x n n h in
     let a = part-below stay (x * n) n (omega arith) in
     let b = part-below moved (x * n) n (omega arith) in
     omega arith
 
--- row x of both tables lies in them, and its sums together are at most 2^53
+-- row x of both tables lies in them, and its sums together are at most twice the limit of pairs
 pub record RowInTables (n : ℕ) (stay moved : List ℕ) (x : ℕ) : Type 0 where
   pub stay-in : x * n + n ≤ length stay
   pub moved-in : x * n + n ≤ length moved
-  pub sums-fit : sumTo n (cellAt n stay x) + sumTo n (cellAt n moved x) ≤ 2 ^ 53
+  pub sums-fit : sumTo n (cellAt n stay x) + sumTo n (cellAt n moved x) ≤ 2 * counterLimit
 
 pub row-in-tables : {n : ℕ} {stay moved : List ℕ} {x : ℕ} → Fitting n stay moved → x < n → RowInTables n stay moved x
 row-in-tables {n} {stay} {moved} {x} f h =
@@ -40,7 +41,7 @@ module _ (N least : ℕ) (stay moved : List ℕ) (x : ℕ) where
   unfolding observations
   any-least = refl
 
-  pub observations-fit : Fitting N stay moved → x < N → observations (cellsOf N least stay moved) x ≤ 2 ^ 53
+  pub observations-fit : Fitting N stay moved → x < N → observations (cellsOf N least stay moved) x ≤ 2 * counterLimit
   unfolding observations
   observations-fit f h = row-fits N stay moved x f h
 

@@ -1,11 +1,12 @@
 -- Which states the fit uses: document 01, "The fit". Generic in the number of states.
-use Prim.Native.Nat.{ℕ, zero, suc, _+_, _*_, _<_, _≤_, _^_}
+use Prim.Native.Nat.{ℕ, zero, suc, _+_, _*_, _<_, _≤_}
 use mathlib.Core.Path.{_≡_}
 use mathlib.Core.Bool.{Bool, _&&_, _||_, cond}
 use mathlib.Core.List.{List}
 use lib.Dec.{ltb, leb}
 use lib.ListN.{length, getD}
 use Rattle.basics.specs.Lists.{sum, cellAt}
+use Rattle.basics.specs.Domain.{counterLimit}
 use Rattle.model.specs.Status.{statusNumber}
 use Rattle.model.specs.declared.StateStatus.{StateStatus}
 use Rattle.model.specs.declared.StateStatus.the-variants as Status
@@ -21,11 +22,11 @@ pub record Cells : Type 0 where
 abbrev pub cellsOf : ℕ → ℕ → List ℕ → List ℕ → Cells
 cellsOf N least stay moved = record { states = N; least = least; stay = cellAt N stay; moved = cellAt N moved }
 
--- two tables of N × N cells, all cells together at most 2^53
+-- two tables of N × N cells, all cells together at most twice the limit of pairs
 pub record Fitting (N : ℕ) (stay moved : List ℕ) : Type 0 where
   pub stay-cells : length stay ≡ N * N
   pub moved-cells : length moved ≡ N * N
-  pub cells-sum : sum stay + sum moved ≤ 2 ^ 53
+  pub cells-sum : sum stay + sum moved ≤ 2 * counterLimit
 
 -- a row's stay plus moved
 unfoldable pub observations : Cells → ℕ → ℕ

@@ -2,17 +2,18 @@
 // Marks are numbers of `StateStatus`: 0 Calibrated, 1 Rare, 2 NoPriceMove. While paths are looked for, 2 is the mark of a state from which none is found yet.
 ghost use mathlib.Core.Path.{_≡_};
 ghost use mathlib.Core.Bool.{true, false};
-ghost use Prim.Native.Nat.{_+_, _*_, _<_, _≤_, _^_};
+ghost use Prim.Native.Nat.{_+_, _*_, _<_, _≤_};
 ghost use lib.ListN.{length};
 ghost use Rattle.basics.specs.Loan.{given, final};
 ghost use Rattle.fit_marking.specs.Below.{sumTo};
 ghost use Rattle.basics.specs.Lists.{cellAt};
+ghost use Rattle.basics.specs.Domain.{counterLimit};
 ghost use Rattle.fit_marking.specs.Marks.{cellsOf, Fitting, observations, Marked};
 ghost use Rattle.fit_marking.specs.Inner.{hasPositive, leadsOut, firstMark, FirstMarks, Freed, Left, Turned};
 
 // The sum of row x of a table of n columns.
 fn row_sum(table: &[u64], n: usize, x: usize) -> u64
-    requires { ⌜ (x * n + n ≤ length (now table)) × (sumTo n (cellAt n (now table) x) ≤ 2 ^ 53) ⌝ }
+    requires { ⌜ (x * n + n ≤ length (now table)) × (sumTo n (cellAt n (now table) x) ≤ 2 * counterLimit) ⌝ }
     ensures { λ r. ⌜ r ≡ sumTo n (cellAt n (given table) x) ⌝ }
 {
     let start = x * n;

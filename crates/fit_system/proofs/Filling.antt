@@ -1,5 +1,5 @@
 -- A row of the system as its parts, and the rows one after another.
-use Prim.Native.Nat.{ℕ, _+_, _-_, _*_, _<_, _≤_, _^_}
+use Prim.Native.Nat.{ℕ, _+_, _-_, _*_, _<_, _≤_}
 use mathlib.Core.Path.{_≡_, refl, sym, ap, _∙_}
 use mathlib.Core.Bool.{Bool, true, cond}
 use mathlib.Core.List.{List}
@@ -14,7 +14,7 @@ use lib.ListN.{length, set, length-set}
 use lib.Seq.{getD-set-same, getD-set-other}
 use lib.Ieee.{Float, nan, binary64, inFloat, sub, neg}
 use Rattle.basics.proofs.Tests.{le-or-lt}
-use Rattle.floats.specs.Floats.{posZero, one}
+use Rattle.floats.specs.Floats.{posZero, one, exactWhole}
 use Rattle.model.specs.Status.{statusNumber}
 use Rattle.model.specs.declared.StateStatus.{StateStatus}
 use Rattle.model.specs.declared.StateStatus.the-variants.{Calibrated, Rare, NoPriceMove, OutsideQuotes}
@@ -39,12 +39,12 @@ cell-below n k f h = omega (arith, sum-more k f, sum-part (k + 1) n f (omega ari
 -- row x lies in the tables, and its cells, its move total and its observations o are exact as floats
 pub record RowExact (n : ℕ) (stay moved : List ℕ) (totals : List ℤ) (x o : ℕ) : Type 0 where
   pub stay-in : x * n + n ≤ length stay
-  pub stay-exact : (k : ℕ) → k < n → cellAt n stay x k ≤ 2 ^ 53
+  pub stay-exact : (k : ℕ) → k < n → cellAt n stay x k ≤ exactWhole
   pub moved-in : x * n + n ≤ length moved
-  pub moved-exact : (k : ℕ) → k < n → cellAt n moved x k ≤ 2 ^ 53
+  pub moved-exact : (k : ℕ) → k < n → cellAt n moved x k ≤ exactWhole
   pub total-in : x < length totals
   pub total-exact : inFloat binary64 (totalOf totals x) ≡ true
-  pub observed-exact : o ≤ 2 ^ 53
+  pub observed-exact : o ≤ exactWhole
 
 pub row-exact : {n : ℕ} {stay moved : List ℕ} {totals : List ℤ} {x o : ℕ} → Exact n stay moved totals → x < n
     → o ≡ observations (cellsOf n 0 stay moved) x → RowExact n stay moved totals x o

@@ -2,10 +2,11 @@
 use Prim.Native.Nat.{ℕ, _+_, _*_, _<_}
 use mathlib.Core.Path.{_≡_, refl, sym, _∙_}
 use mathlib.Core.List.{List}
-use mathlib.Core.Logic.{inl}
+use mathlib.Core.Logic.{inl, _≢_}
 use native.Mathlib.Omega.{arith}
 use lib.IntN.{ℤ}
 use lib.Ieee.{Float}
+use Rattle.refusals.specs.Refusals.{refusal}
 use Rattle.refusals.specs.declared.Check.the-variants.{Fine, Refused}
 use Rattle.refusals.specs.declared.Refusal.the-variants.{SingularTransitions, NotConverged}
 use Rattle.fit_marking.specs.Marks.{Cells}
@@ -22,7 +23,7 @@ use Rattle.basics.proofs.Tests.{zero-not-one, row-in}
 use Rattle.fit_linear.proofs.Cells.{eliminated-of}
 use Rattle.fit_series.proofs.Rounds.{summed-of, shared-of}
 use Rattle.fit_system.specs.Rows.{systemOf}
-use Rattle.fit_system.specs.Solution.{solution, unsolved, summedUp, solutionFrom, solutionOf}
+use Rattle.fit_system.specs.Solution.{Solution, solution, unsolved, summedUp, solutionFrom, solutionOf}
 use Rattle.fit_system.specs.Inner.{Stands, SolvedIn}
 
 -- ---- by the answers of the parts
@@ -65,6 +66,24 @@ not-summed g h (converged sum term) e = absurd (zero-not-one cc)
 is-summed : (g h : ℕ → Float) (s : Series Float) → Sum.Converged ≡ sumAnswer s → summedUp g h s ≡ solution g (seriesSum s) h
 is-summed g h (converged sum term) e = refl
 is-summed g h (notConverged sum term) e = absurd (zero-not-one cc)
+
+-- ---- where there is no solution something is refused
+
+abbrev pub SolvedOrRefused : Solution → Type 0
+SolvedOrRefused (solution G1 sum share) = Unit {0}
+SolvedOrRefused (unsolved k) = refusal k ≢ Fine
+
+pub solved-or-refused : (rounds moves : ℕ) (C : Cells) (total : ℕ → ℤ) → SolvedOrRefused (solutionOf rounds moves C total)
+unfolding solutionOf
+solved-or-refused rounds moves C total = go (gaussJordan rounded (C .states) (systemOf C total))
+  where
+    summed : (g h : ℕ → Float) (s : Series Float) → SolvedOrRefused (summedUp g h s)
+    summed g h (converged sum term) = tt
+    summed g h (notConverged sum term) = λ e. zero-not-one cc
+
+    go : (a : Elimination Float) → SolvedOrRefused (solutionFrom (C .states) rounds moves a)
+    go (singular A) = λ e. zero-not-one cc
+    go (solved A) = summed (λ i. A i (C .states)) _ (sumSeries rounded (C .states) (λ i j. A i (C .states + 2 + j)) (λ i. A i (C .states)) rounds)
 
 -- ---- in scratch
 

@@ -11,7 +11,7 @@ use Rattle.fit_marking.specs.Marks.{Cells, Fitting, markOf}
 use Rattle.fit_system.specs.Rows.{totalOf}
 use Rattle.refusals.specs.Refusals.{refusal}
 use Rattle.refusals.specs.declared.Check.{Check}
-use Rattle.refusals.specs.declared.Check.the-variants.{Fine, Refused}
+use Rattle.refusals.specs.declared.Check.the-variants.{Fine}
 use Rattle.fit_linear.specs.Inner.{from}
 use Rattle.fit_series.specs.Inner.{sumAt, shareAt, solvedG1}
 use Rattle.fit_system.specs.Solution.{Solution, solution, unsolved}
@@ -30,7 +30,7 @@ pub record Marks (C : Cells) (marks : List ℕ) : Type 0 where
 
 abbrev pub checkOf : Solution → Check
 checkOf (solution G1 sum share) = Fine
-checkOf (unsolved k) = Refused (refusal k)
+checkOf (unsolved k) = refusal k
 
 -- G1, sum and share of n states stand in their places
 pub record Stands (n : ℕ) (G1 sum share : ℕ → Float) (l : List Float) : Type 0 where

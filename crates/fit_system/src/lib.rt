@@ -6,13 +6,13 @@ use refusals::Check;
 use refusals::Refusal;
 ghost use mathlib.Core.Path.{_≡_};
 ghost use mathlib.Core.Bool.{true, cond};
-ghost use Prim.Native.Nat.{ℕ, _+_, _*_, _<_, _≤_, _^_};
+ghost use Prim.Native.Nat.{ℕ, _+_, _*_, _<_, _≤_};
 ghost use lib.Dec.{eqb};
 ghost use lib.IntN.{pos};
 ghost use lib.ListN.{length};
 ghost use lib.Ieee.{binary64, inFloat, sub, neg};
 ghost use Rattle.basics.specs.Loan.{given, final};
-ghost use Rattle.floats.specs.Floats.{one, posZero};
+ghost use Rattle.floats.specs.Floats.{one, posZero, exactWhole};
 ghost use Rattle.model.specs.Status.{statusNumber};
 ghost use Rattle.basics.specs.Lists.{cellAt};
 ghost use Rattle.fit_marking.specs.Marks.{cellsOf, markOf};
@@ -24,7 +24,7 @@ ghost use Rattle.fit_system.specs.Solution.{solutionOf};
 
 // A count by the row's observations, or zero.
 fn part_of(count: u64, observed: u64, is_used: bool) -> f64
-    requires { ⌜ (count ≤ 2 ^ 53) × (observed ≤ 2 ^ 53) ⌝ }
+    requires { ⌜ (count ≤ exactWhole) × (observed ≤ exactWhole) ⌝ }
     ensures { λ r. ⌜ r ≡ part «is_used» (pos count) observed ⌝ }
 {
     if is_used {
@@ -35,7 +35,7 @@ fn part_of(count: u64, observed: u64, is_used: bool) -> f64
 
 // The move total of x by its observations, or zero.
 fn total_part(move_half_ticks: &[i64], x: usize, observed: u64, is_used: bool) -> f64
-    requires { ⌜ (x < length (now «move_half_ticks»)) × (inFloat binary64 (totalOf (now «move_half_ticks») x) ≡ true) × (observed ≤ 2 ^ 53) ⌝ }
+    requires { ⌜ (x < length (now «move_half_ticks»)) × (inFloat binary64 (totalOf (now «move_half_ticks») x) ≡ true) × (observed ≤ exactWhole) ⌝ }
     ensures { λ r. ⌜ r ≡ part «is_used» (totalOf (given «move_half_ticks») x) observed ⌝ }
 {
     if is_used {
@@ -74,7 +74,7 @@ fn fill_stay(
     scratch: &mut [f64],
     to: usize,
 )
-    requires { ⌜ (x * n + n ≤ length (now stay)) × ((k : ℕ) → k < n → cellAt n (now stay) x k ≤ 2 ^ 53) × (observed ≤ 2 ^ 53) × (to + n ≤ length (now scratch)) ⌝ }
+    requires { ⌜ (x * n + n ≤ length (now stay)) × ((k : ℕ) → k < n → cellAt n (now stay) x k ≤ exactWhole) × (observed ≤ exactWhole) × (to + n ≤ length (now scratch)) ⌝ }
     ensures { λ _. ⌜ Filled to n (λ k. let q = part «is_used» (pos (cellAt n (given stay) x k)) observed in cond (eqb x k) (sub binary64 one q) (neg q)) (given scratch) (final scratch) ⌝ }
 {
     let row = x * n;
@@ -96,7 +96,7 @@ fn fill_moved(
     scratch: &mut [f64],
     to: usize,
 )
-    requires { ⌜ (x * n + n ≤ length (now moved)) × ((k : ℕ) → k < n → cellAt n (now moved) x k ≤ 2 ^ 53) × (observed ≤ 2 ^ 53) × (to + n ≤ length (now scratch)) ⌝ }
+    requires { ⌜ (x * n + n ≤ length (now moved)) × ((k : ℕ) → k < n → cellAt n (now moved) x k ≤ exactWhole) × (observed ≤ exactWhole) × (to + n ≤ length (now scratch)) ⌝ }
     ensures { λ _. ⌜ Filled to n (λ k. part «is_used» (pos (cellAt n (given moved) x k)) observed) (given scratch) (final scratch) ⌝ }
 {
     let row = x * n;

@@ -13,7 +13,7 @@ use lib.Ieee.Fits.{down-pos}
 use lib.Ieee.Exact.{HasValue, round-exact}
 use lib.Ieee.Back.{round-whole}
 use lib.Ieee.Scale.{round-same}
-use Rattle.floats.specs.Floats.{tiny, two, fromInt, half}
+use Rattle.floats.specs.Floats.{tiny, two, fromInt, half, exactWhole}
 
 pub tiny-is : tiny ≡ round binary64 false 1 1000000000000
 unfolding ofBits round
@@ -26,8 +26,8 @@ signOf (negsuc n) = true
 
 pub whole-exact : (z : ℤ) → inFloat binary64 z ≡ true → HasValue (fromInt z) (signOf z) (natAbs z) 1
 unfolding inFloat ofInt
-whole-exact (pos n) h = round-whole binary64 false n (leb-true n (2 ^ 53) h)
-whole-exact (negsuc n) h = round-whole binary64 true (suc n) (ltb-true n (2 ^ 53) h)
+whole-exact (pos n) h = round-whole binary64 false n (leb-true n exactWhole h)
+whole-exact (negsuc n) h = round-whole binary64 true (suc n) (ltb-true n exactWhole h)
 
 halved : (x : Float) (a c : ℕ) → 0 < c → HasValue x false a c → div binary64 x two ≡ round binary64 false a (2 * c)
 unfolding div ofBits
@@ -38,7 +38,7 @@ halved (fin false m e) a c C v =
     round-same binary64 false (m * up e * 1) (2 * down e) a (2 * c) (mul-pos (zero-lt-suc 1) (down-pos e)) (mul-pos (zero-lt-suc 1) C)
     (ap (λ (z : ℕ). z * (2 * c)) (mul-one (m * up e)) ∙ mul-left-comm (m * up e) 2 c ∙ ap (λ (z : ℕ). 2 * z) (v .1) ∙ mul-left-comm 2 a (down e))
 
-pub half-exact : (n : ℕ) → n < 2 ^ 53 → HasValue (half n) false n 2
+pub half-exact : (n : ℕ) → n < exactWhole → HasValue (half n) false n 2
 unfolding half ofInt
 half-exact n h =
     rw (halved (fromInt (pos n)) n 1 (zero-lt-suc 0) (round-whole binary64 false n (omega arith)))

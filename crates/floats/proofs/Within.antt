@@ -1,7 +1,7 @@
 -- The mid plus an adjustment of at most half the spread, rounded once, lies from the bid to the ask.
 use mathlib.Core.Path.{_≡_, sym, ap, _∙_, subst}
 use mathlib.Core.Bool.{Bool, true, false, not, true≢false}
-use Prim.Native.Nat.{ℕ, _+_, _-_, _*_, _^_, _<_, _≤_}
+use Prim.Native.Nat.{ℕ, _+_, _-_, _*_, _<_, _≤_}
 use native.Mathlib.Nat.{mul-pos, zero-lt-suc, mul-comm, mul-assoc, mul-left-comm, add-mul, le-refl}
 use native.Mathlib.Omega.{arith}
 use borrow.Author.Tests.{le-ltb}
@@ -12,7 +12,7 @@ use lib.Ieee.Fits.{down-pos}
 use lib.Ieee.Exact.{HasValue}
 use lib.Ieee.Order.{transfer}
 use lib.Ieee.Scale.{finite, round-same}
-use Rattle.floats.specs.Floats.{abs, fromInt, half}
+use Rattle.floats.specs.Floats.{abs, fromInt, half, exactWhole}
 use Rattle.floats.proofs.Signs.{abs-neg, neg-neg, sum-like}
 use Rattle.floats.proofs.Order.{sub-times, le-trans-float, le-neg, le→sizes, sizes→le, add-mono}
 use Rattle.floats.proofs.Whole.{half-exact}
@@ -120,13 +120,13 @@ values-le (fin false m e) (fin false n g) a c b d v w h =
 
 -- ---- the mid and half the spread make the ask and the bid
 
-ask-is : (b a : ℕ) → b ≤ a → b + a < 2 ^ 53 → add binary64 (half (b + a)) (half (a - b)) ≡ fromInt (pos a)
+ask-is : (b a : ℕ) → b ≤ a → b + a < exactWhole → add binary64 (half (b + a)) (half (a - b)) ≡ fromInt (pos a)
 unfolding ofInt
 ask-is b a h k =
     add-at binary64 (half (b + a)) (half (a - b)) (b + a) 2 (a - b) 2 (zero-lt-suc 1) (zero-lt-suc 1) (half-exact (b + a) k) (half-exact (a - b) (omega arith))
     ∙ round-same binary64 false ((b + a) * 2 + (a - b) * 2) 4 a 1 (zero-lt-suc 3) (zero-lt-suc 0) (omega arith)
 
-bid-is : (b a : ℕ) → b ≤ a → b + a < 2 ^ 53 → add binary64 (half (b + a)) (neg (half (a - b))) ≡ fromInt (pos b)
+bid-is : (b a : ℕ) → b ≤ a → b + a < exactWhole → add binary64 (half (b + a)) (neg (half (a - b))) ≡ fromInt (pos b)
 unfolding ofInt
 bid-is b a h k =
     sub-at binary64 (half (b + a)) (half (a - b)) (b + a) 2 (a - b) 2 (zero-lt-suc 1) (zero-lt-suc 1) (half-exact (b + a) k) (half-exact (a - b) (omega arith))
@@ -134,7 +134,7 @@ bid-is b a h k =
     ∙ round-same binary64 false ((b + a) * 2 - (a - b) * 2) 4 b 1 (zero-lt-suc 3) (zero-lt-suc 0) (omega arith)
 
 -- one price, inside the quotes
-pub inside : (b a : ℕ) (adj : Float) → b ≤ a → b + a < 2 ^ 53 → T (le (abs adj) (half (a - b)))
+pub inside : (b a : ℕ) (adj : Float) → b ≤ a → b + a < exactWhole → T (le (abs adj) (half (a - b)))
     → T (le (fromInt (pos b)) (add binary64 (half (b + a)) adj)) × T (le (add binary64 (half (b + a)) adj) (fromInt (pos a)))
 inside b a adj h k t =
     let hs = half (a - b) in

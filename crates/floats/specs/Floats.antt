@@ -1,5 +1,5 @@
 -- Helpers on binary64: document 01, "Forms to change" (abs, max, clamp, total_cmp), "The fit" and "Domain". A float is the kit's `Float`, of lib.Ieee.
-use Prim.Native.Nat.{ℕ, zero, suc, _*_}
+use Prim.Native.Nat.{ℕ, zero, suc, _*_, _^_}
 use mathlib.Core.Bool.{Bool, true, false, cond, _||_}
 use lib.Dec.{eqb}
 use lib.IntN.{ℤ, pos}
@@ -76,11 +76,15 @@ fromBits b = ofBits binary64 b
 
 -- ---- whole numbers
 
--- a whole number as a float: exact up to 2^53 either sign, by the law whole-exact
+-- whole numbers of up to this size are floats exactly
+abbrev pub exactWhole : ℕ
+exactWhole = 2 ^ 53
+
+-- a whole number as a float: exact up to that size, by the law whole-exact
 abbrev pub fromInt : ℤ → Float
 fromInt z = ofInt binary64 z
 
--- half of a number of units: exact below 2^53, by the law half-exact
+-- half of a number of units: exact below that size, by the law half-exact
 unfoldable pub half : ℕ → Float
 unfolding div ofInt ofBits
 half n = div binary64 (fromInt (pos n)) two

@@ -102,7 +102,7 @@ module _ (c : MicroPriceConfig) (e : valid c ≡ true) (fits : ConfigWords c) wh
       (refuseIf (overLimit (historyMemory c (gains H q) .counts)) 6) fine in
       let g = first-fine (checkQuote c q) (refuseIf (earlier (historyMemory c H .last) q) 5) (f .0) in
       let inside : overLimit (step (rule c) (historyMemory c H) q .counts) ≡ false =
-      ap (λ (m : Memory Previous). overLimit (m .counts)) (grown H q) ∙ if-fine (overLimit (historyMemory c (gains H q) .counts)) 6 (f .1) in
+      ap (λ (m : Memory Previous). overLimit (m .counts)) (grown H q) ∙ if-fine (overLimit (historyMemory c (gains H q) .counts)) 6 refl (f .1) in
       record {
         start-sized = h .start-sized;
         holds = subst (Holds c) (grown H q) (step-holds c v (historyMemory c H) (h .holds) q words (g .0) inside);

@@ -11,6 +11,7 @@ use lib.ListN.{length, getD, replicate, length-replicate}
 use borrow.Author.Tests.{eq-eqb, leb-true, ltb-false, not-false}
 use Rattle.basics.specs.Lists.{any, allFrom}
 use Rattle.basics.proofs.Tests.{zero-not-one, neither, eqb-same}
+use Rattle.basics.specs.Domain.{mostHalfTicks, counterLimit, cellLimit}
 use Rattle.image_words.specs.Words.{twos, AllWords}
 use Rattle.image_words.proofs.Round.{all-append}
 use Rattle.tally.proofs.Sums.{change-size}
@@ -80,19 +81,19 @@ module _ (c : MicroPriceConfig) (v : Valid c) where
         largest-fits = omega arith;
       }
 
-  pair-size : (p q : TopOfBook) → Accepted c p → Accepted c q → (n : Neighbours) → neighboursOf c p q ≡ n → sizeOf (eventFrom n) ≤ 4000000000
+  pair-size : (p q : TopOfBook) → Accepted c p → Accepted c q → (n : Neighbours) → neighboursOf c p q ≡ n → sizeOf (eventFrom n) ≤ 2 * mostHalfTicks
   pair-size p q fp fq (Skipped k) h = omega arith
   pair-size p q fp fq (Counted e) h =
       let k = counted-made c p q e h in
       omega
       (arith, change-size (e .«mid_from») (e .«mid_to»), k .from-mid, k .to-mid, half-ticks-most c p v fp, half-ticks-most c q v fq)
 
-  event-size : (l : Previous) (q : TopOfBook) → broken c l ≡ false → Accepted c q → sizeOf (eventOf c l q) ≤ 4000000000
+  event-size : (l : Previous) (q : TopOfBook) → broken c l ≡ false → Accepted c q → sizeOf (eventOf c l q) ≤ 2 * mostHalfTicks
   event-size Nothing q s f = omega arith
   event-size (Quoted p) q s f =
       pair-size p q (fine-known c p (refuses-not (checkQuote c p) s)) f (neighboursOf c p q) refl
 
-  larger : (N : ℕ) (mirror : ℕ → ℕ) (e : Event) (k : Counts) → k .largest < 2 ^ 64 → sizeOf e ≤ 4000000000 → entered N mirror e k .largest < 2 ^ 64
+  larger : (N : ℕ) (mirror : ℕ → ℕ) (e : Event) (k : Counts) → k .largest < 2 ^ 64 → sizeOf e ≤ 2 * mostHalfTicks → entered N mirror e k .largest < 2 ^ 64
   larger N mirror first k h g = h
   larger N mirror (skip n) k h g = h
   larger N mirror (pair i j d) k h g = omega arith
@@ -200,17 +201,17 @@ module _ (c : MicroPriceConfig) (e : valid c ≡ true) (m : Memory Previous) (h 
 
 counters-fit : (l : List ℕ) → any overCounter l ≡ false → (k : ℕ) → getD l k 0 < 2 ^ 64
 counters-fit [] e k = omega arith
-counters-fit (x ∷ l) e zero = omega (arith, ltb-false (2 ^ 52) x (neither (overCounter x) (any overCounter l) e .0))
+counters-fit (x ∷ l) e zero = omega (arith, ltb-false counterLimit x (neither (overCounter x) (any overCounter l) e .0))
 counters-fit (x ∷ l) e (suc k) = counters-fit l (neither (overCounter x) (any overCounter l) e .1) k
 
 cells-within : (l : List ℕ) → any overCell l ≡ false → AllWords l
 cells-within [] e = tt
 cells-within (x ∷ l) e =
     let p = neither (overCell x) (any overCell l) e in
-    (omega (arith, ltb-false (2 ^ 53) x (p .0)), cells-within l (p .1))
+    (omega (arith, ltb-false cellLimit x (p .0)), cells-within l (p .1))
 
 total-fits : (z : ℤ) → overTotal z ≡ false → twos z < 2 ^ 64
-total-fits (pos n) e = omega (arith, leb-true n (2 ^ 53) (not-false _ e))
+total-fits (pos n) e = omega (arith, leb-true n cellLimit (not-false _ e))
 total-fits (negsuc n) e = omega arith
 
 totals-within : (l : List ℤ) → any overTotal l ≡ false → AllWords (map twos l)
@@ -227,8 +228,9 @@ module _ (c : MicroPriceConfig) (e : valid c ≡ true) (fits : ConfigWords c) (m
   counts-fit =
       let N = valid-known c e .states-most in
       let C : states c * states c ≤ 65536 = mul-le-mul N N in
+      let pairs : m .counts .pairs < 2 ^ 64 = omega (arith, ltb-false counterLimit (m .counts .pairs) (w .pairs-in)) in
       let skips = counters-fit (m .counts .skips) (w .skips-in) in
-      (omega (arith, ltb-false (2 ^ 52) (m .counts .pairs) (w .pairs-in)), (skips (kindOf Spread), (skips (kindOf Gap), (h .largest-fits, (omega arith, tt)))))
+      (pairs, (skips (kindOf Spread), (skips (kindOf Gap), (h .largest-fits, (omega arith, tt)))))
 
   body-fits : AllWords (body (m .counts .tables))
   body-fits =

@@ -10,6 +10,7 @@ use Rattle.basics.specs.Lists.{sum}
 use Rattle.image_words.proofs.Words.{words-by}
 use Rattle.refusals.specs.Refusals.{refusal}
 use Rattle.refusals.specs.declared.Check.the-variants as Check
+use Rattle.refusals.specs.declared.Refusal.the-variants.{SliceLength}
 use Rattle.config.specs.Configuration.{newConfig, configWords}
 use Rattle.config.specs.declared.MicroPriceConfig.{MicroPriceConfig}
 use Rattle.quotes.specs.declared.TopOfBook.{TopOfBook}
@@ -116,8 +117,8 @@ pub answers-are : run three-states (fresh three-states) returning-calls .answers
     observes Check.Fine ∷
     observes Check.Fine ∷
     saves (endSave Check.Fine first-image) ∷
-    saves (endSave (Check.Refused (refusal 7)) []) ∷
-    restores (Restored.Refused (refusal 7)) ∷
+    saves (endSave (refusal 7) []) ∷
+    restores (Restored.Refused SliceLength) ∷
     restores (Restored.Config three-states) ∷
     [])
 unfolding header headerIn

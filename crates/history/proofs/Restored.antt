@@ -10,6 +10,7 @@ use lib.ListN.{length, getD, drop, length-drop, length-map}
 use borrow.Author.Tests.{eqb-true, le-ltb, ltb-false, not-false}
 use Rattle.basics.specs.Lists.{any, sum}
 use Rattle.basics.proofs.Tests.{zero-not-one, both, neither}
+use Rattle.basics.specs.Domain.{counterLimit, cellLimit}
 use Rattle.image_words.specs.Words.{wordsOf, untwos, AllBytes, AllWords}
 use Rattle.image_words.proofs.Laws.{length-words}
 use Rattle.image_words.proofs.Round.{bytes-drop, words-fit}
@@ -45,9 +46,9 @@ same-total (negsuc a) (pos b) e = absurd (zero-not-one cc)
 same-total (negsuc a) (negsuc b) e = λ i. negsuc (eqb-true a b e i)
 
 -- a cell is at most the sum of all
-cells-in : (l : List ℕ) → sum l ≤ 2 ^ 53 → any overCell l ≡ false
+cells-in : (l : List ℕ) → sum l ≤ cellLimit → any overCell l ≡ false
 cells-in [] h = refl
-cells-in (x ∷ l) h = rw (le-ltb (2 ^ 53) x (omega arith)) (cells-in l (omega arith))
+cells-in (x ∷ l) h = rw (le-ltb cellLimit x (omega arith)) (cells-in l (omega arith))
 
 module _ (N : ℕ) (mirror : ℕ → ℕ) (k : Counts) (fine : checkCounts N mirror k ≡ Fine) where
   abbrev walk : Check
@@ -57,13 +58,13 @@ module _ (N : ℕ) (mirror : ℕ → ℕ) (k : Counts) (fine : checkCounts N mir
   twice = isTwice (k .pairs) (k .tables)
 
   stored : storedOver k ≡ false
-  stored = if-fine (storedOver k) 6 (first-fine (refuseIf (storedOver k) 6) (firstOf walk (refuseIf (not twice) 11)) fine .0)
+  stored = if-fine (storedOver k) 6 refl (first-fine (refuseIf (storedOver k) 6) (firstOf walk (refuseIf (not twice) 11)) fine .0)
 
   rest : (walk ≡ Fine) × (refuseIf (not twice) 11 ≡ Fine)
   rest = first-fine walk (refuseIf (not twice) 11) (first-fine (refuseIf (storedOver k) 6) (firstOf walk (refuseIf (not twice) 11)) fine .1)
 
   cells-twice : sum (k .tables .stay) + sum (k .tables .moved) ≡ 2 * k .pairs
-  cells-twice = eqb-true _ _ (not-false twice (if-fine (not twice) 11 (rest .1)))
+  cells-twice = eqb-true _ _ (not-false twice (if-fine (not twice) 11 refl (rest .1)))
 
   module _ (i : ℕ) (h : i < N) where
     state : (refuseIf (not (totalMirrored (k .tables .totals) i (mirror i))) 9 ≡ Fine) × (refuseIf (not (rowMirrored N mirror (k .tables) i)) 10 ≡ Fine)
@@ -74,14 +75,14 @@ module _ (N : ℕ) (mirror : ℕ → ℕ) (k : Counts) (fine : checkCounts N mir
     total : getD (k .tables .totals) (mirror i) (pos 0) ≡ negℤ (getD (k .tables .totals) i (pos 0))
     total =
         same-total (getD (k .tables .totals) (mirror i) (pos 0)) (negℤ (getD (k .tables .totals) i (pos 0)))
-        (not-false (totalMirrored (k .tables .totals) i (mirror i)) (if-fine _ 9 (state .0)))
+        (not-false (totalMirrored (k .tables .totals) i (mirror i)) (if-fine _ 9 refl (state .0)))
 
     cells : (j : ℕ) → j < N
         → (cellsAlike (k .tables .stay) (i * N + j) (mirror i * N + mirror j) ≡ true)
         × (cellsAlike (k .tables .moved) (i * N + j) (mirror i * N + mirror j) ≡ true)
     cells j g =
         both (cellsAlike (k .tables .stay) (i * N + j) (mirror i * N + mirror j)) (cellsAlike (k .tables .moved) (i * N + j) (mirror i * N + mirror j))
-        (all-at (cellMirrored N mirror (k .tables) i) 0 N j (not-false (rowMirrored N mirror (k .tables) i) (if-fine _ 10 (state .1))) (omega arith)
+        (all-at (cellMirrored N mirror (k .tables) i) 0 N j (not-false (rowMirrored N mirror (k .tables) i) (if-fine _ 10 refl (state .1))) (omega arith)
         (omega arith))
 
   check-balanced : Balanced N mirror k
@@ -97,7 +98,7 @@ module _ (N : ℕ) (mirror : ℕ → ℕ) (k : Counts) (fine : checkCounts N mir
   check-within =
       let s = neither (overCounter (k .pairs) || any overCounter (k .skips)) (any overTotal (k .tables .totals)) stored in
       let c = neither (overCounter (k .pairs)) (any overCounter (k .skips)) (s .0) in
-      let most : k .pairs ≤ 2 ^ 52 = ltb-false (2 ^ 52) (k .pairs) (c .0) in
+      let few : k .pairs ≤ counterLimit = ltb-false counterLimit (k .pairs) (c .0) in
       let stay = cells-in (k .tables .stay) (omega (arith, cells-twice)) in
       let moved = cells-in (k .tables .moved) (omega (arith, cells-twice)) in
       rw (c .0, c .1, stay, moved, s .1)

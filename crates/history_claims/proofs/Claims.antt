@@ -9,7 +9,7 @@ use borrow.Author.Tests.{eq-eqb}
 use lib.ListN.{length}
 use lib.Ieee.{Float, eq}
 use Rattle.floats.specs.Floats.{posZero}
-use Rattle.refusals.specs.Refusals.{numberOf, refusal, refuseIf, firstOf}
+use Rattle.refusals.specs.Refusals.{numberOf, refusal, refuseIf, firstOf, checkNumber}
 use Rattle.refusals.specs.declared.Check.{Check}
 use Rattle.refusals.specs.declared.Check.the-variants as Check
 use Rattle.refusals.specs.declared.Refusal.{Refusal}
@@ -112,10 +112,9 @@ module _ (c : MicroPriceConfig) (e : valid c ≡ true) (fits : ConfigWords c) (k
     where
       go : (b : Bool) → fitRefusal c (left c ks) (length l) (length t) ≡ refuseIf b 7 → (numberOf r ≡ 7) ⊎ ((16 ≤ numberOf r) × (numberOf r ≤ 19))
       go true f =
-          let k : Check.Refused (refusal 7) ≡ Check.Refused r =
+          let k : refusal 7 ≡ Check.Refused r =
           ap (λ (x : Check). fitUnless x (states c) (fitOf 10000 10 (givenOf c (left c ks .counts))) t l .answer) (sym f) ∙ a in
-          let q : refusal 7 ≡ r = cc in
-          inl (ap numberOf (sym q))
+          inl (ap checkNumber (sym k))
       go false f = inr (fit-numbers 10000 10 c (left c ks) t l r f a)
 
   -- demand 3, its last sentence

@@ -11,10 +11,11 @@ use borrow.Author.Tests.{not-false}
 use Rattle.basics.proofs.Tests.{zero-not-one}
 use Rattle.basics.specs.Lists.{bit, tab}
 use Rattle.image_words.specs.Words.{AllWords}
-use Rattle.refusals.specs.Refusals.{numberOf, refusal, refuseIf, firstOf}
+use Rattle.refusals.specs.Refusals.{numberOf, refuseIf, firstOf}
 use Rattle.refusals.specs.declared.Check.{Check}
 use Rattle.refusals.specs.declared.Check.the-variants as Check
 use Rattle.refusals.specs.declared.Refusal.{Refusal}
+use Rattle.refusals.specs.declared.Refusal.the-variants.{Configuration, OverDomain, CountLimit, SliceLength, RecordingUnsorted, WindowBackward}
 use Rattle.refusals.proofs.Refusals.{if-fine, first-fine}
 use Rattle.config.specs.Configuration.{states, valid, checkConfig}
 use Rattle.config.specs.declared.MicroPriceConfig.{MicroPriceConfig}
@@ -265,15 +266,15 @@ module _ (c : MicroPriceConfig) (fits : ConfigWords c) (e : valid c ≡ true) wh
         }
 
     module _ (m : Memory Previous) where
-      stopped-evening : (k : ℕ) → oneOf (7 ∷ 14 ∷ 15 ∷ 1 ∷ []) (refusal k) ≡ false → oneOf (7 ∷ 14 ∷ 15 ∷ 1 ∷ 2 ∷ 6 ∷ []) (refusal k) ≡ true → (r : Refusal)
-          → R .answer ≡ Check.Refused r → R .answer ≡ Check.Refused (refusal k) → RefusedEvening c m qs t l (endEvening (Refused r) (fresh c) t l) r
-      stopped-evening k n a r f g =
-          let same : refusal k ≡ r = cc in
-          subst (λ (x : Refusal). RefusedEvening c m qs t l (endEvening (Refused x) (fresh c) t l) x) same
+      stopped-evening : (x : Refusal) → oneOf (7 ∷ 14 ∷ 15 ∷ 1 ∷ []) x ≡ false → oneOf (7 ∷ 14 ∷ 15 ∷ 1 ∷ 2 ∷ 6 ∷ []) x ≡ true → (r : Refusal)
+          → R .answer ≡ Check.Refused r → R .answer ≡ Check.Refused x → RefusedEvening c m qs t l (endEvening (Refused r) (fresh c) t l) r
+      stopped-evening x n a r f g =
+          let same : x ≡ r = cc in
+          subst (λ (y : Refusal). RefusedEvening c m qs t l (endEvening (Refused y) (fresh c) t l) y) same
           (record {
             number = a;
             unchanged = λ u. absurd (zero-not-one cc);
-            stopped = λ u. (refl, stopped-at qs words (refusal k) g);
+            stopped = λ u. (refl, stopped-at qs words x g);
           })
 
       -- only 2 and 6 stop it
@@ -291,8 +292,8 @@ module _ (c : MicroPriceConfig) (fits : ConfigWords c) (e : valid c ≡ true) wh
         where
           go : Ended (R .answer) → RefusedEvening c m qs t l (endEvening (Refused x) (fresh c) t l) x
           go (inl g) = absurd (zero-not-one cc)
-          go (inr (inl g)) = stopped-evening 2 refl refl x f g
-          go (inr (inr g)) = stopped-evening 6 refl refl x f g
+          go (inr (inl g)) = stopped-evening OverDomain refl refl x f g
+          go (inr (inr g)) = stopped-evening CountLimit refl refl x f g
 
 module _ (c : MicroPriceConfig) (fits : ConfigWords c) (m : Memory Previous) (w : List ℕ) (words : AllWords w) (start end : ℕ) (t : List ℕ)
     (l : List Float) where
@@ -316,9 +317,9 @@ module _ (c : MicroPriceConfig) (fits : ConfigWords c) (m : Memory Previous) (w 
   wrongSlices = wrongFitLengths (states c) (length l) (length t)
 
   -- 7, 14, 15, 1: unchanged
-  unchanged-evening : (k : ℕ) → oneOf (2 ∷ 6 ∷ []) (refusal k) ≡ false → oneOf (7 ∷ 14 ∷ 15 ∷ 1 ∷ 2 ∷ 6 ∷ []) (refusal k) ≡ true
-      → RefusedEvening c m qs t l (endEvening (Refused (refusal k)) m t l) (refusal k)
-  unchanged-evening k n a =
+  unchanged-evening : (x : Refusal) → oneOf (2 ∷ 6 ∷ []) x ≡ false → oneOf (7 ∷ 14 ∷ 15 ∷ 1 ∷ 2 ∷ 6 ∷ []) x ≡ true
+      → RefusedEvening c m qs t l (endEvening (Refused x) m t l) x
+  unchanged-evening x n a =
       record {
         number = a;
         unchanged = λ u. refl;
@@ -331,12 +332,12 @@ module _ (c : MicroPriceConfig) (fits : ConfigWords c) (m : Memory Previous) (w 
       go : (a b d e f g : Bool)
           → Each (λ r. RefusedEvening c m qs t l (endEvening (Refused r) m t l) r)
           (firstOf (firstOf (refuseIf a 7) (firstOf (refuseIf b 14) (refuseIf d 15))) (firstOf (firstOf (refuseIf e 1) (refuseIf f 7)) (refuseIf g 7)))
-      go true b d e f g = unchanged-evening 7 refl refl
-      go false true d e f g = unchanged-evening 14 refl refl
-      go false false true e f g = unchanged-evening 15 refl refl
-      go false false false true f g = unchanged-evening 1 refl refl
-      go false false false false true g = unchanged-evening 7 refl refl
-      go false false false false false true = unchanged-evening 7 refl refl
+      go true b d e f g = unchanged-evening SliceLength refl refl
+      go false true d e f g = unchanged-evening RecordingUnsorted refl refl
+      go false false true e f g = unchanged-evening WindowBackward refl refl
+      go false false false true f g = unchanged-evening Configuration refl refl
+      go false false false false true g = unchanged-evening SliceLength refl refl
+      go false false false false false true = unchanged-evening SliceLength refl refl
       go false false false false false false = tt
 
   evening-from : (k : Check) → eveningRefusal c m w start end (length l) (length t) ≡ k
@@ -346,10 +347,10 @@ module _ (c : MicroPriceConfig) (fits : ConfigWords c) (m : Memory Previous) (w 
       let b = first-fine enough (refuseIf wrongSlices 7) (a .1) in
       let times = first-fine (refuseIf (uneven w) 7) (firstOf (refuseIf outOfOrder 14) (refuseIf (backward start end (quotesOf w)) 15)) (a .0) .1 in
       let ordered : sorted (quotesOf w) ≡ true =
-      not-false _ (if-fine outOfOrder 14 (first-fine (refuseIf outOfOrder 14) (refuseIf (backward start end (quotesOf w)) 15) times .0)) in
-      let right : valid c ≡ true = not-false _ (if-fine (not (valid c)) 1 (first-fine (checkConfig c) (refuseIf wrongTables 7) (b .0) .0)) in
+      not-false _ (if-fine outOfOrder 14 refl (first-fine (refuseIf outOfOrder 14) (refuseIf (backward start end (quotesOf w)) 15) times .0)) in
+      let right : valid c ≡ true = not-false _ (if-fine (not (valid c)) 1 refl (first-fine (checkConfig c) (refuseIf wrongTables 7) (b .0) .0)) in
       count-history c fits right qs (filter-fits (inside start end) (quotesOf w) (quotes-fit w words))
-      (sorted-filter (inside start end) 0 (quotesOf w) ordered) t l (if-fine wrongSlices 7 (b .1)) m (recorded c qs 0 (fresh c) .answer) refl
+      (sorted-filter (inside start end) 0 (quotesOf w) ordered) t l (if-fine wrongSlices 7 refl (b .1)) m (recorded c qs 0 (fresh c) .answer) refl
   evening-from (Check.Refused x) f =
       record {
         fitted = λ d g. absurd (fitted-refused d x (sym g));

@@ -6,7 +6,6 @@ use lib.ListN.{length, replicate}
 use lib.Ieee.{Float}
 use Rattle.floats.specs.Floats.{posZero}
 use Rattle.refusals.specs.Refusals.{refusal}
-use Rattle.refusals.specs.declared.Check.the-variants.{Refused}
 use Rattle.history.specs.Calls.{Call, quote}
 use Rattle.history.specs.Demand.{left}
 use Rattle.fit.specs.Fit.{endFit, fitCounts}
@@ -21,5 +20,5 @@ abbrev pub calls18 : List Call
 calls18 = quote18 0 100 101 ∷ quote18 1 101 102 ∷ []
 
 pub run-18 : (model : List ℕ) (scratch : List Float) → length scratch ≡ 132 → length model ≡ 42
-    → fitCounts config18 (left config18 calls18) model scratch ≡ endFit (Refused (refusal 18)) model (replicate (length scratch) posZero)
+    → fitCounts config18 (left config18 calls18) model scratch ≡ endFit (refusal 18) model (replicate (length scratch) posZero)
 run-18 = fit-refused-18 (left config18 calls18 .last)

@@ -51,12 +51,12 @@ save-known c m long e =
     let r = tables-known c (length (m .counts .tables .stay)) (length (m .counts .tables .moved)) (length (m .counts .tables .totals)) (a .0) in
     let w = wrongLengths (states c) (length (m .counts .tables .stay)) (length (m .counts .tables .moved)) (length (m .counts .tables .totals)) in
     record {
-      valid-is = not-false (valid c) (if-fine (not (valid c)) 1 (first-fine (checkConfig c) (refuseIf w 7) (a .0) .0));
+      valid-is = not-false (valid c) (if-fine (not (valid c)) 1 refl (first-fine (checkConfig c) (refuseIf w 7) (a .0) .0));
       conf = r .0;
       enough = a .0;
       sizes = r .1;
-      long-is = eqb-true long (imageLength newest c) (not-false _ (if-fine _ 7 (b .0)));
-      sound = if-fine _ 8 (d .0);
+      long-is = eqb-true long (imageLength newest c) (not-false _ (if-fine _ 7 refl (b .0)));
+      sound = if-fine _ 8 refl (d .0);
       mirrored = d .1;
     }
 
@@ -103,19 +103,19 @@ form-known form b t e =
     let a = first-fine (refuseIf (tooShort b) 12) (firstOf (checkConfig c) (firstOf (refuseIf (not (laidOut form b)) 12) (heldRefusal form b t))) e in
     let d = first-fine (checkConfig c) (firstOf (refuseIf (not (laidOut form b)) 12) (heldRefusal form b t)) (a .1) in
     let f = first-fine (refuseIf (not (laidOut form b)) 12) (heldRefusal form b t) (d .1) in
-    let l = not-false (laidOut form b) (if-fine (not (laidOut form b)) 12 (f .0)) in
+    let l = not-false (laidOut form b) (if-fine (not (laidOut form b)) 12 refl (f .0)) in
     let h = first-fine (refuseIf (lentWrong (states c) t) 7)
     (firstOf (refuseIf (broken c (previousIn b)) 8) (checkMirrored c (memoryIn form b .counts))) (f .1) in
     let k = first-fine (refuseIf (broken c (previousIn b)) 8) (checkMirrored c (memoryIn form b .counts)) (h .1) in
     record {
       read = laid-out-read form b l;
-      header-there = ltb-false (length b) (headerLength oldest) (if-fine (tooShort b) 12 (a .0));
-      valid-is = not-false (valid c) (if-fine (not (valid c)) 1 (d .0));
-      conf = valid-known c (not-false (valid c) (if-fine (not (valid c)) 1 (d .0)));
+      header-there = ltb-false (length b) (headerLength oldest) (if-fine (tooShort b) 12 refl (a .0));
+      valid-is = not-false (valid c) (if-fine (not (valid c)) 1 refl (d .0));
+      conf = valid-known c (not-false (valid c) (if-fine (not (valid c)) 1 refl (d .0)));
       header-is = laid-out-header form b l;
       whole = laid-out-whole form b l;
-      sizes = if-fine (lentWrong (states c) t) 7 (h .0);
-      sound = if-fine (broken c (previousIn b)) 8 (k .0);
+      sizes = if-fine (lentWrong (states c) t) 7 refl (h .0);
+      sound = if-fine (broken c (previousIn b)) 8 refl (k .0);
       mirrored = k .1;
     }
 

@@ -1,5 +1,5 @@
 -- The round trip: restoring what was saved gives it back, and an image that is accepted is exactly what save writes of what restore gives.
-use Prim.Native.Nat.{ℕ, suc, _+_, _*_, _/_, _≤_, _<_, _^_}
+use Prim.Native.Nat.{ℕ, suc, _+_, _*_, _/_, _≤_, _<_}
 use mathlib.Core.Path.{_≡_, refl, sym, ap, _∙_}
 use mathlib.Core.Bool.{true, false, not, cond, _&&_, _||_}
 use mathlib.Core.List.{List, [], _∷_, _++_, map}
@@ -14,6 +14,7 @@ use borrow.Author.Tests.{le-ltb, eq-eqb, leb-true, not-false}
 use Rattle.basics.specs.Lists.{any, sameWords}
 use Rattle.basics.proofs.Lists.{same-self}
 use Rattle.basics.proofs.Tests.{zero-not-one, neither, eqb-same}
+use Rattle.basics.specs.Domain.{cellLimit}
 use Rattle.image_words.specs.Words.{bytesOf, wordsOf, twos, untwos, AllBytes, AllWords}
 use Rattle.image_words.proofs.Laws.{length-bytes, length-words, words-at, words-part}
 use Rattle.image_words.proofs.Round.{words-back, bytes-back, bytes-drop, words-fit, words-join, twos-back}
@@ -85,8 +86,8 @@ accepted-image b t a e =
 -- ---- what was saved comes back
 
 total-back : (z : ℤ) → not (within z) ≡ false → untwos (twos z) ≡ z
-total-back (pos n) e = toZ-ofZ {w = w64} {z = pos n} (record { sfits = omega (arith, leb-true n (2 ^ 53) (not-false _ e)) })
-total-back (negsuc n) e = toZ-ofZ {w = w64} {z = negsuc n} (record { sfits = omega (arith, leb-true (suc n) (2 ^ 53) (not-false _ e)) })
+total-back (pos n) e = toZ-ofZ {w = w64} {z = pos n} (record { sfits = omega (arith, leb-true n cellLimit (not-false _ e)) })
+total-back (negsuc n) e = toZ-ofZ {w = w64} {z = negsuc n} (record { sfits = omega (arith, leb-true (suc n) cellLimit (not-false _ e)) })
 
 totals-back : (l : List ℤ) → any overTotal l ≡ false → map untwos (map twos l) ≡ l
 totals-back [] e = refl
@@ -282,7 +283,7 @@ counts-small : (N : ℕ) (mirror : ℕ → ℕ) (k : Counts) → checkCounts N m
 counts-small N mirror k e =
     let f = first-fine (refuseIf (storedOver k) 6)
     (firstOf (firstFrom (checkState N mirror (k .tables)) 0 N) (refuseIf (not (isTwice (k .pairs) (k .tables))) 11)) e in
-    neither (overCounter (k .pairs) || any overCounter (k .skips)) (any overTotal (k .tables .totals)) (if-fine (storedOver k) 6 (f .0)) .1
+    neither (overCounter (k .pairs) || any overCounter (k .skips)) (any overTotal (k .tables .totals)) (if-fine (storedOver k) 6 refl (f .0)) .1
 
 save-fine : (x : Check) (before written : List ℕ) → savedUnless x before written .answer ≡ Fine → (x ≡ Fine) × (savedUnless x before written .output ≡ written)
 save-fine Fine before written e = (refl, refl)

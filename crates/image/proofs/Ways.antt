@@ -11,7 +11,7 @@ use borrow.Author.Tests.{lt-ltb, le-ltb, not-true, not-false}
 use Rattle.image_words.specs.Words.{wordsOf, untwos}
 use Rattle.refusals.specs.Refusals.{refuseIf, firstOf, refusal}
 use Rattle.refusals.specs.declared.Check.{Check}
-use Rattle.refusals.specs.declared.Check.the-variants.{Fine, Refused}
+use Rattle.refusals.specs.declared.Check.the-variants.{Fine}
 use Rattle.config.specs.Configuration.{states, valid}
 use Rattle.config.specs.declared.MicroPriceConfig.{MicroPriceConfig}
 use Rattle.tally.specs.Entries.{Tables, tables}
@@ -29,18 +29,18 @@ use Rattle.image.specs.declared.Restored.the-variants.{Config}
 
 -- ---- the judgement of an image by its form, by what code finds of it in turn: its length, c of its header, v whether c is valid, l whether it is laid out
 module _ (form : ℕ) (b : List ℕ) (t : Tables) where
-  pub way-short : length b < headerLength oldest → Refused (refusal 12) ≡ formRefusal form b t
+  pub way-short : length b < headerLength oldest → refusal 12 ≡ formRefusal form b t
   way-short h = rw (lt-ltb _ _ h)
 
   module _ {c : MicroPriceConfig} {v : Bool} (long : headerLength oldest ≤ length b) (ec : c ≡ configIn form b) (ev : v ≡ valid c) where
     validity : valid (configIn form b) ≡ v
     validity = ap valid (sym ec) ∙ sym ev
 
-    pub way-invalid : not v ≡ true → Refused (refusal 1) ≡ formRefusal form b t
+    pub way-invalid : not v ≡ true → refusal 1 ≡ formRefusal form b t
     way-invalid e = rw (le-ltb _ _ long, validity, not-true v e)
 
     module _ {l : Bool} (is : not v ≡ false) (el : l ≡ laidOut form b) where
-      pub way-layout : not l ≡ true → Refused (refusal 12) ≡ formRefusal form b t
+      pub way-layout : not l ≡ true → refusal 12 ≡ formRefusal form b t
       way-layout e = rw (le-ltb _ _ long, validity, not-false v is, ← el, not-true l e)
 
       pub way-held : {k : Check} → not l ≡ false → k ≡ heldRefusal form b t → k ≡ formRefusal form b t
@@ -68,12 +68,12 @@ module _ (form : ℕ) (b : List ℕ) (t : Tables) (c : MicroPriceConfig) (r : Re
   lengths : lentWrong (states c) t ≡ w
   lengths = sym (ew ∙ ap (λ (k : ℕ). lentWrong k t) en)
 
-  pub held-seven : w ≡ true → Refused (refusal 7) ≡ heldRefusal form b t
-  held-seven e = (let g : Refused (refusal 7) ≡ held there = rw (lengths, e) in g) ∙ held-is
+  pub held-seven : w ≡ true → refusal 7 ≡ heldRefusal form b t
+  held-seven e = (let g : refusal 7 ≡ held there = rw (lengths, e) in g) ∙ held-is
 
   module _ {k : Bool} (right : w ≡ false) (ek : k ≡ broken c (r .previous)) where
-    pub held-eight : k ≡ true → Refused (refusal 8) ≡ heldRefusal form b t
-    held-eight e = (let g : Refused (refusal 8) ≡ held there = rw (lengths, right, ← ek, e) in g) ∙ held-is
+    pub held-eight : k ≡ true → refusal 8 ≡ heldRefusal form b t
+    held-eight e = (let g : refusal 8 ≡ held there = rw (lengths, right, ← ek, e) in g) ∙ held-is
 
     pub held-checked : {T : Tables} {x : Check} → k ≡ false → T ≡ there → x ≡ checkMirrored c (countsOf (r .counters) T)
         → x ≡ heldRefusal form b t

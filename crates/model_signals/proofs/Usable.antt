@@ -1,6 +1,6 @@
 -- What is known where 1, 7, 2, 3 and 4 do not refuse a signal.
 use Prim.Native.Nat.{ℕ, _*_}
-use mathlib.Core.Path.{_≡_}
+use mathlib.Core.Path.{_≡_, refl}
 use mathlib.Core.Bool.{true, not}
 use mathlib.Core.List.{List}
 use lib.ListN.{length}
@@ -26,7 +26,7 @@ unrefused c t q e =
     let a = first-fine (checkConfig c) (firstOf (refuseIf (wrongLength c t) 7) (checkQuote c q)) e in
     let b = first-fine (refuseIf (wrongLength c t) 7) (checkQuote c q) (a .1) in
     record {
-      config = not-false (valid c) (if-fine (not (valid c)) 1 (a .0));
-      table = eqb-true (length t) (7 * states c) (not-false (eqb (length t) (7 * states c)) (if-fine (wrongLength c t) 7 (b .0)));
+      config = not-false (valid c) (if-fine (not (valid c)) 1 refl (a .0));
+      table = eqb-true (length t) (7 * states c) (not-false (eqb (length t) (7 * states c)) (if-fine (wrongLength c t) 7 refl (b .0)));
       quote = b .1;
     }

@@ -1,5 +1,5 @@
 -- A signal's adjustment lies inside the quotes.
-use Prim.Native.Nat.{ℕ, _-_, _*_, _^_, _<_}
+use Prim.Native.Nat.{ℕ, _-_, _*_, _<_}
 use mathlib.Core.Path.{_≡_, refl, sym, ap, _∙_, subst}
 use mathlib.Core.Bool.{Bool, true, false, cond, not, _||_, _&&_}
 use mathlib.Core.List.{List}
@@ -10,7 +10,7 @@ use lib.Ieee.{Float, nan, inf, fin, up, down, le, ofBits}
 use lib.Ieee.Fits.{down-pos}
 use lib.Ieee.Scale.{finite}
 use Rattle.basics.proofs.Tests.{zero-not-one, both}
-use Rattle.floats.specs.Floats.{posZero, abs, half}
+use Rattle.floats.specs.Floats.{posZero, abs, half, exactWhole}
 use Rattle.floats.proofs.Whole.{half-exact}
 use Rattle.floats.proofs.Within.{values-le}
 use Rattle.model.specs.Rows.{rowAt}
@@ -39,7 +39,7 @@ use Rattle.model_signals.specs.declared.Signalled.the-variants.{Sent, Re
 use Rattle.quotes.proofs.Widths.{width-most}
 use Rattle.model_signals.proofs.Usable.{unrefused}
 
-half-within : (q : TopOfBook) (w : ℕ) (x : Float) → w < 2 ^ 53 → w ≡ q .ask - q .bid → T (finite x) → T (le (abs x) (half w)) → Within q x
+half-within : (q : TopOfBook) (w : ℕ) (x : Float) → w < exactWhole → w ≡ q .ask - q .bid → T (finite x) → T (le (abs x) (half w)) → Within q x
 unfolding abs
 half-within q w nan l e f h = absurd f
 half-within q w (inf s) l e f h = absurd f
@@ -64,7 +64,7 @@ module _ (c : MicroPriceConfig) (q : TopOfBook) (v : Valid c) (f : Accepted c q)
   width-is : width ≡ q .ask - q .bid
   width-is = ap (λ (s : ℕ). c .«tick_size» * s) (place-spread c q v f a p) ∙ sym (spread-whole c q v f)
 
-  width-less : width < 2 ^ 53
+  width-less : width < exactWhole
   width-less = omega (arith, width-most c v (a .state) (place-located c q v a p .below))
 
   row-within : (e : StateEstimate) → rowServes c (a .state) e ≡ true → Within q (adjustmentOf e)

@@ -1,6 +1,6 @@
 -- The tests of a quote give the facts of Accepted.
 use Prim.Native.Nat.{ℕ, zero, suc, _+_, _≤_}
-use mathlib.Core.Path.{_≡_}
+use mathlib.Core.Path.{_≡_, refl}
 use mathlib.Core.Bool.{false, not, _&&_, _||_}
 use native.Mathlib.Omega.{arith}
 use lib.Dec.{leb, ltb, eqb}
@@ -8,12 +8,12 @@ use borrow.Author.Tests.{ltb-false, leb-false, eqb-true, eqb-false, not-false}
 use Rattle.refusals.specs.Refusals.{refuseIf, firstOf}
 use Rattle.refusals.proofs.Refusals.{if-fine, first-fine}
 use Rattle.refusals.specs.declared.Check.the-variants.{Fine}
-use Rattle.config.specs.Configuration.{most}
 use Rattle.config.specs.declared.MicroPriceConfig.{MicroPriceConfig}
 use Rattle.quotes.specs.Quotes.{overDomain, badQuote, onGrid, offTick, checkQuote}
 use Rattle.quotes.specs.Inner.{Accepted}
 use Rattle.quotes.specs.declared.TopOfBook.{TopOfBook}
 use Rattle.basics.proofs.Tests.{zero-not-one, neither}
+use Rattle.basics.specs.Domain.{most}
 
 some : (x y : ℕ) → (eqb x 0 && eqb y 0) ≡ false → 1 ≤ x + y
 some zero zero e = absurd (zero-not-one cc)
@@ -24,7 +24,8 @@ pub fine-known : (c : MicroPriceConfig) (q : TopOfBook) → checkQuote c q ≡ F
 fine-known c q e =
     let a = first-fine (refuseIf (overDomain q) 2) (firstOf (refuseIf (badQuote q) 3) (refuseIf (offTick c q) 4)) e in
     let i = first-fine (refuseIf (badQuote q) 3) (refuseIf (offTick c q) 4) (a .1) in
-    let l : (overDomain q ≡ false) × (badQuote q ≡ false) × (offTick c q ≡ false) = (if-fine _ 2 (a .0), if-fine _ 3 (i .0), if-fine _ 4 (i .1)) in
+    let l : (overDomain q ≡ false) × (badQuote q ≡ false) × (offTick c q ≡ false) =
+    (if-fine _ 2 refl (a .0), if-fine _ 3 refl (i .0), if-fine _ 4 refl (i .1)) in
     let o = neither (ltb most (q .bid) || ltb most (q .ask) || ltb most (q .«bid_size»)) (ltb most (q .«ask_size»)) (l .0) in
     let p = neither (ltb most (q .bid) || ltb most (q .ask)) (ltb most (q .«bid_size»)) (o .0) in
     let r = neither (ltb most (q .bid)) (ltb most (q .ask)) (p .0) in

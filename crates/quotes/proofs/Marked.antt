@@ -5,7 +5,6 @@ use mathlib.Core.List.{List, [], _∷_, map, List·Memᴰ, List·Memᴰ·not-nil
 use mathlib.Core.Logic.{⊎-elim}
 use Rattle.refusals.specs.Refusals.{refusal}
 use Rattle.refusals.specs.declared.Check.{Check}
-use Rattle.refusals.specs.declared.Check.the-variants.{Refused}
 use Rattle.config.specs.Configuration.{newConfig, withMinStateObservations, withMaxQuoteGapMs}
 use Rattle.config.specs.declared.MicroPriceConfig.{MicroPriceConfig}
 use Rattle.quotes.specs.Quotes.{checkQuote}
@@ -71,7 +70,7 @@ table =
     row (mirror 3) (mirrors (Mirror.State 5)) ∷
     row (gap 1000) (neighbours (Counted (record { from = withMirror 3 1; to = withMirror 3 1; «mid_from» = 201; «mid_to» = 201 }))) ∷
     row (gap 1001) (neighbours (Skipped Gap)) ∷
-    row (offered 5 (quote 0 100 107 5 5)) (check (Refused (refusal 4))) ∷
+    row (offered 5 (quote 0 100 107 5 5)) (check (refusal 4)) ∷
     []
 
 -- the computed test

@@ -3,6 +3,7 @@ use Prim.Native.Nat.{_+_, _-_, _*_, _/_, _≤_, _<_}
 use mathlib.Core.Path.{_≡_, sym}
 use native.Mathlib.Omega.{arith}
 use native.Mathlib.Nat.{div-add-mod', lt-of-mul-lt-mul-right, add-mul, mul-sub, mul-comm, div-eq-of-eq-mul-left, div-le-self}
+use Rattle.basics.specs.Domain.{mostHalfTicks}
 use Rattle.config.specs.Inner.{Valid}
 use Rattle.config.specs.declared.MicroPriceConfig.{MicroPriceConfig}
 use Rattle.quotes.specs.Quotes.{inTicks, spreadOf, halfTicks}
@@ -37,6 +38,6 @@ module _ (c : MicroPriceConfig) (q : TopOfBook) (v : Valid c) (f : Accepted c q)
       (div-eq-of-eq-mul-left (v .tick-least)
       (omega (arith, add-mul (inTicks c (q .bid)) (inTicks c (q .ask)) (c .«tick_size»), bid-is, ask-is)))
 
-  pub half-ticks-most : halfTicks c q ≤ 2000000000
+  pub half-ticks-most : halfTicks c q ≤ mostHalfTicks
   half-ticks-most =
       omega (arith, f .bid-most, f .ask-most, div-le-self (q .bid) (c .«tick_size»), div-le-self (q .ask) (c .«tick_size»))

@@ -2,6 +2,7 @@
 use Prim.Native.Nat.{ℕ, _*_, _≤_, _<_}
 use native.Mathlib.Nat.{mul-le-mul, div-le-self}
 use native.Mathlib.Omega.{arith}
+use Rattle.basics.specs.Domain.{most}
 use Rattle.config.specs.Configuration.{states}
 use Rattle.config.specs.Inner.{Valid}
 use Rattle.config.specs.declared.MicroPriceConfig.{MicroPriceConfig}
@@ -12,5 +13,5 @@ module _ (c : MicroPriceConfig) (v : Valid c) (i : ℕ) (h : i < states c) where
   spread-most = omega (arith, div-le-self i (c .«imbalance_buckets»), v .states-most)
 
   -- tick × spread of a state: below 2^53, so a float exactly
-  pub width-most : c .«tick_size» * spreadIn (c .«imbalance_buckets») i ≤ 1000000000 * 256
+  pub width-most : c .«tick_size» * spreadIn (c .«imbalance_buckets») i ≤ most * 256
   width-most = mul-le-mul (v .tick-most) spread-most

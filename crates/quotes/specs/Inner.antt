@@ -2,7 +2,8 @@
 -- place-located give them.
 use Prim.Native.Nat.{_+_, _%_, _≤_, _<_}
 use mathlib.Core.Path.{_≡_}
-use Rattle.config.specs.Configuration.{most, states}
+use Rattle.basics.specs.Domain.{most}
+use Rattle.config.specs.Configuration.{states}
 use Rattle.config.specs.declared.MicroPriceConfig.{MicroPriceConfig}
 use Rattle.quotes.specs.States.{mirrorOf}
 use Rattle.quotes.specs.declared.At.{At}

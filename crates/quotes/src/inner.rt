@@ -6,12 +6,13 @@ use super::Place;
 use super::Reason;
 use super::Skip;
 use super::TopOfBook;
+use basics::DOMAIN;
 use config::MicroPriceConfig;
-use config::inner::DOMAIN;
 use refusals::Check;
 use refusals::Refusal;
 ghost use mathlib.Core.Path.{_≡_};
 ghost use Prim.Native.Nat.{_+_, _-_, _*_, _≤_, _<_};
+ghost use Rattle.basics.specs.Domain.{most};
 ghost use Rattle.config.specs.Inner.{Valid};
 ghost use Rattle.quotes.specs.Quotes.{overDomain, badQuote, onGrid, inTicks, offTick, checkQuote, spreadOf, halfTicks};
 ghost use Rattle.quotes.specs.Inner.{Accepted};
@@ -70,7 +71,7 @@ pub fn check_quote(config: MicroPriceConfig, q: TopOfBook) -> Check
 
 // The bucket of a book with `lighter` on the bid, by one division; 1 stands in for 0, as both give bucket 0.
 fn lower_bucket(lighter: u64, heavier: u64, n: u64) -> u64
-    requires { ⌜ (lighter ≤ heavier) × (1 ≤ heavier) × (heavier ≤ 1000000000) × (2 ≤ n) × (n ≤ 256) ⌝ }
+    requires { ⌜ (lighter ≤ heavier) × (1 ≤ heavier) × (heavier ≤ most) × (2 ≤ n) × (n ≤ 256) ⌝ }
     ensures { λ r. ⌜ r ≡ lowerBucket lighter heavier n ⌝ }
 {
     let scaled = basics::larger(lighter * n, 1);
@@ -78,7 +79,7 @@ fn lower_bucket(lighter: u64, heavier: u64, n: u64) -> u64
 }
 
 fn bucket_of(bid: u64, ask: u64, n: u64) -> u64
-    requires { ⌜ (bid ≤ 1000000000) × (ask ≤ 1000000000) × (1 ≤ bid + ask) × (2 ≤ n) × (n ≤ 256) ⌝ }
+    requires { ⌜ (bid ≤ most) × (ask ≤ most) × (1 ≤ bid + ask) × (2 ≤ n) × (n ≤ 256) ⌝ }
     ensures { λ r. ⌜ r ≡ bucketOf bid ask n ⌝ }
 {
     let b = lower_bucket(basics::smaller(bid, ask), basics::larger(bid, ask), n);

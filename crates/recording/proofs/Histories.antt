@@ -13,6 +13,7 @@ use Rattle.refusals.specs.Refusals.{refusal, refuseIf, firstOf}
 use Rattle.refusals.specs.declared.Check.{Check}
 use Rattle.refusals.specs.declared.Check.the-variants.{Fine, Refused}
 use Rattle.refusals.specs.declared.Refusal.{Refusal}
+use Rattle.refusals.specs.declared.Refusal.the-variants.{OverDomain, BadQuote, OffTick, CountLimit}
 use Rattle.config.specs.Configuration.{states, valid}
 use Rattle.config.specs.Inner.{Valid}
 use Rattle.config.specs.declared.MicroPriceConfig.{MicroPriceConfig}
@@ -41,7 +42,7 @@ use Rattle.recording.proofs.Runs.{goes-on, stops-at}
 -- 2, 3 or 4, or nothing refused
 data Judged (k : Check) : Type 0 where
   fine : k ≡ Fine → Judged k
-  stopped : k ≡ Refused (refusal 2) → Judged k
+  stopped : k ≡ refusal 2 → Judged k
   invalid : (r : Refusal) → k ≡ Refused r → isInvalid (Refused r) ≡ true → isStop (Refused r) ≡ false → Judged k
 
 judged : (c : MicroPriceConfig) (q : TopOfBook) → Judged (checkQuote c q)
@@ -49,13 +50,13 @@ judged c q = go (overDomain q) (badQuote q) (offTick c q)
   where
     go : (a b d : Bool) → Judged (firstOf (refuseIf a 2) (firstOf (refuseIf b 3) (refuseIf d 4)))
     go true b d = stopped refl
-    go false true d = invalid (refusal 3) refl refl refl
-    go false false true = invalid (refusal 4) refl refl refl
+    go false true d = invalid BadQuote refl refl refl
+    go false false true = invalid OffTick refl refl refl
     go false false false = fine refl
 
 -- nothing refused, 2 or 6
 abbrev pub Ended : Check → Type 0
-Ended k = (k ≡ Fine) ⊎ ((k ≡ Refused (refusal 2)) ⊎ (k ≡ Refused (refusal 6)))
+Ended k = (k ≡ Fine) ⊎ ((k ≡ refusal 2) ⊎ (k ≡ refusal 6))
 
 past-fine : (a b : Check) → firstOf (firstOf a Fine) b ≡ firstOf a b
 past-fine Fine b = refl
@@ -124,7 +125,7 @@ module _ (c : MicroPriceConfig) (e : valid c ≡ true) where
     within : overLimit (r .left .counts) ≡ false
 
   -- a stop leaves the memory of the history
-  stopped-counted : (t : ℕ) (H qs : List TopOfBook) (k : ℕ) (x : Refusal) → Ready t H → (Refused x ≡ Refused (refusal 2)) ⊎ (Refused x ≡ Refused (refusal 6))
+  stopped-counted : (t : ℕ) (H qs : List TopOfBook) (k : ℕ) (x : Refusal) → Ready t H → (Refused x ≡ refusal 2) ⊎ (Refused x ≡ refusal 6)
       → Counted H qs k (recordedAs (Refused x) k (held c H))
   stopped-counted t H qs k x h d =
       record {
@@ -167,7 +168,7 @@ module _ (c : MicroPriceConfig) (e : valid c ≡ true) where
     is-observed a d = sym (ap outcome (refusal-is t H h q l ∙ d))
 
     counted-stop : (x : Refusal) → isStop (Refused x) ≡ true → firstOf (checkQuote c q) (refuseIf (passes H q) 6) ≡ Refused x
-        → (Refused x ≡ Refused (refusal 2)) ⊎ (Refused x ≡ Refused (refusal 6)) → Counted H (q ∷ qs) k (recorded c (q ∷ qs) k (held c H))
+        → (Refused x ≡ refusal 2) ⊎ (Refused x ≡ refusal 6) → Counted H (q ∷ qs) k (recorded c (q ∷ qs) k (held c H))
     counted-stop x s d u =
         subst (Counted H (q ∷ qs) k)
         (sym (stops-at (observed c) q qs k (held c H) (outcome (Refused x)) (is-observed (Refused x) d) s))
@@ -207,12 +208,12 @@ module _ (c : MicroPriceConfig) (e : valid c ≡ true) where
       go : t ≤ q .«timestamp_ms»
           → (passes H q ≡ false → checkQuote c q ≡ Fine → Counted (H ++ q ∷ []) qs (k + 0) (recorded c qs (k + 0) (held c (H ++ q ∷ []))))
           → Counted H qs (k + 1) (recorded c qs (k + 1) (held c H)) → Judged (checkQuote c q) → Counted H (q ∷ qs) k (recorded c (q ∷ qs) k (held c H))
-      go l f i (stopped j) = counted-stop t H qs q k h l (refusal 2) refl (rw j) (inl refl)
+      go l f i (stopped j) = counted-stop t H qs q k h l OverDomain refl (rw j) (inl refl)
       go l f i (invalid x j a b) = counted-invalid t H qs q k h l x j a b i
       go l f i (fine j) = limits (passes H q) refl
         where
           limits : (b : Bool) → passes H q ≡ b → Counted H (q ∷ qs) k (recorded c (q ∷ qs) k (held c H))
-          limits true w = counted-stop t H qs q k h l (refusal 6) refl (rw (j, w)) (inr refl)
+          limits true w = counted-stop t H qs q k h l CountLimit refl (rw (j, w)) (inr refl)
           limits false w = counted-fine t H qs q k h l j w (f w j)
 
   -- ---- from new on

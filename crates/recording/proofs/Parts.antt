@@ -91,7 +91,7 @@ module _ (w : List ℕ) (start end : ℕ) where
   fine-sorted f =
       let a = first-fine (refuseIf (uneven w) 7) (firstOf (refuseIf (not (sorted (quotesOf w))) 14) (refuseIf (backward start end (quotesOf w)) 15)) f in
       let b = first-fine (refuseIf (not (sorted (quotesOf w))) 14) (refuseIf (backward start end (quotesOf w)) 15) (a .1) in
-      not-false (sorted (quotesOf w)) (if-fine (not (sorted (quotesOf w))) 14 (b .0))
+      not-false (sorted (quotesOf w)) (if-fine (not (sorted (quotesOf w))) 14 refl (b .0))
 
   pub handed-quotes : checkWindow w start end ≡ Check.Fine → quotesOf handed ≡ filter (inside start end) (quotesOf w)
   handed-quotes f =

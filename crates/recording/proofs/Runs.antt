@@ -10,7 +10,7 @@ use borrow.Author.Tests.{eq-eqb, ne-eqb}
 use Rattle.basics.specs.Lists.{bit}
 use Rattle.refusals.specs.Refusals.{refusal}
 use Rattle.refusals.specs.declared.Check.{Check}
-use Rattle.refusals.specs.declared.Check.the-variants.{Fine, Refused}
+use Rattle.refusals.specs.declared.Check.the-variants.{Fine}
 use Rattle.config.specs.declared.MicroPriceConfig.{MicroPriceConfig}
 use Rattle.quotes.specs.declared.TopOfBook.{TopOfBook}
 use Rattle.tally.specs.Rules.{Memory}
@@ -54,7 +54,7 @@ pub record Observing (c : MicroPriceConfig) (w : List ℕ) (m₀ m : Memory Prev
 
 module _ (c : MicroPriceConfig) (w : List ℕ) (m₀ : Memory Previous) where
   -- words that are no multiple of five
-  pub observing-uneven : (length w % 5 ≡ 0 → ⊥) → recordedAs (Refused (refusal 7)) 0 m₀ ≡ recordedOf c w m₀
+  pub observing-uneven : (length w % 5 ≡ 0 → ⊥) → recordedAs (refusal 7) 0 m₀ ≡ recordedOf c w m₀
   observing-uneven h = rw (ne-eqb (length w % 5) 0 h)
 
   pub observing-start : Observing c w m₀ m₀ 0 0

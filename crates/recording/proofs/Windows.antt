@@ -11,9 +11,10 @@ use lib.ListN.{length, getD}
 use borrow.Author.Tests.{eq-eqb, ne-eqb, le-leb, lt-leb, lt-ltb, le-ltb, ltb-true}
 use Rattle.basics.specs.Lists.{bit, count, any}
 use Rattle.basics.proofs.Tests.{le-or-lt, same-test}
-use Rattle.refusals.specs.Refusals.{refusal, refuseIf, firstOf}
+use Rattle.refusals.specs.Refusals.{refuseIf, firstOf}
 use Rattle.refusals.specs.declared.Check.{Check}
 use Rattle.refusals.specs.declared.Check.the-variants as Check
+use Rattle.refusals.specs.declared.Refusal.the-variants.{SliceLength, RecordingUnsorted, WindowBackward}
 use Rattle.quotes.specs.declared.TopOfBook.{TopOfBook}
 use Rattle.recording.specs.Recording.{timeAt, quoteAt, quotesOf, sortedFrom, sorted}
 use Rattle.recording.specs.Window.{inside, before, backward, checkWindow, endsOf, windowUnless, windowOf, partEnds}
@@ -145,11 +146,11 @@ module _ (start end : ℕ) (qs : List TopOfBook) where
 -- ---- the window's answers
 
 module _ (w : List ℕ) (start end : ℕ) where
-  pub way-uneven : (length w % 5 ≡ 0 → ⊥) → Refused (refusal 7) ≡ windowOf w start end
+  pub way-uneven : (length w % 5 ≡ 0 → ⊥) → Refused SliceLength ≡ windowOf w start end
   way-uneven h = rw (ne-eqb (length w % 5) 0 h)
 
   module _ (even : length w % 5 ≡ 0) where
-    pub way-unsorted : sorted (quotesOf w) ≡ false → Refused (refusal 14) ≡ windowOf w start end
+    pub way-unsorted : sorted (quotesOf w) ≡ false → Refused RecordingUnsorted ≡ windowOf w start end
     way-unsorted e =
         rw (eq-eqb (length w % 5) 0 even)
         (sym (ap (λ (s : Bool). windowUnless (firstOf (refuseIf (not s) 14) (refuseIf (backward start end (quotesOf w)) 15)) (endsOf start end (quotesOf w)))
@@ -159,7 +160,7 @@ module _ (w : List ℕ) (start end : ℕ) where
       back : ltb p f ≡ backward start end (quotesOf w)
       back = rw (ef, ep) (sym (backward-is start end (quotesOf w)))
 
-      pub way-backward : p < f → Refused (refusal 15) ≡ windowOf w start end
+      pub way-backward : p < f → Refused WindowBackward ≡ windowOf w start end
       way-backward h = rw (eq-eqb (length w % 5) 0 even, e, ← back, lt-ltb p f h)
 
       pub way-part : f ≤ p → Part (record { first = f; past = p }) ≡ windowOf w start end

@@ -3,7 +3,6 @@ use Prim.Native.Nat.{ℕ}
 use mathlib.Core.Bool.{cond}
 use mathlib.Core.List.{List}
 use Rattle.refusals.specs.Refusals.{refusal}
-use Rattle.refusals.specs.declared.Check.the-variants.{Refused}
 use Rattle.config.specs.declared.MicroPriceConfig.{MicroPriceConfig}
 use Rattle.tally.specs.Rules.{Memory}
 use Rattle.calibrator.specs.declared.Previous.{Previous}
@@ -12,4 +11,4 @@ use Rattle.recording.specs.Observe.{RecordedOutcome, recordedAs, recorde
 
 -- 7 first, for a recording that is not a multiple of five words
 abbrev pub recordedOf : MicroPriceConfig → List ℕ → Memory Previous → RecordedOutcome Previous
-recordedOf c w m = cond (uneven w) (recordedAs (Refused (refusal 7)) 0 m) (recorded c (quotesOf w) 0 m)
+recordedOf c w m = cond (uneven w) (recordedAs (refusal 7) 0 m) (recorded c (quotesOf w) 0 m)

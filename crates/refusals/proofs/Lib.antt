@@ -1,3 +1,3 @@
+pub mod Cases
 pub mod Numbers
 pub mod Refusals
-pub mod Rows

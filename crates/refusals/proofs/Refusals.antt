@@ -7,14 +7,15 @@ use native.Mathlib.Nat.{eq-or-lt-of-le}
 use native.Mathlib.Numerals.{add-one}
 use native.Mathlib.Omega.{arith}
 use Rattle.basics.proofs.Tests.{zero-not-one, still, gone}
-use Rattle.refusals.specs.Refusals.{refuseIf, firstOf, firstFrom}
+use Rattle.refusals.specs.Refusals.{refusal, refuseIf, firstOf, firstFrom}
 use Rattle.refusals.specs.declared.Check.{Check}
 use Rattle.refusals.specs.declared.Check.the-variants.{Fine, Refused}
 use Rattle.refusals.specs.declared.Refusal.{Refusal}
 
-pub if-fine : (t : Bool) (k : ℕ) → refuseIf t k ≡ Fine → t ≡ false
-if-fine true k e = absurd (zero-not-one cc)
-if-fine false k e = refl
+-- k the number of a refusal
+pub if-fine : (t : Bool) (k : ℕ) {r : Refusal} → refusal k ≡ Refused r → refuseIf t k ≡ Fine → t ≡ false
+if-fine true k h e = absurd (zero-not-one cc)
+if-fine false k h e = refl
 
 pub first-fine : (a b : Check) → firstOf a b ≡ Fine → (a ≡ Fine) × (b ≡ Fine)
 first-fine Fine b e = (refl, e)

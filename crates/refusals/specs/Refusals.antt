@@ -1,8 +1,8 @@
 -- Document 01's refusals by number, and the first of several in its order.
-use Prim.Native.Nat.{ℕ, zero, suc, _-_}
-use mathlib.Core.Bool.{Bool, true, false}
+use Prim.Native.Nat.{ℕ, zero, suc}
+use mathlib.Core.Bool.{Bool, true, false, cond}
 use mathlib.Core.List.{List, [], _∷_}
-use lib.ListN.{getD}
+use lib.Dec.{eqb}
 use Rattle.refusals.specs.declared.Check.{Check}
 use Rattle.refusals.specs.declared.Check.the-variants.{Fine, Refused}
 use Rattle.refusals.specs.declared.Refusal.{Refusal}
@@ -30,7 +30,7 @@ numberOf SingularTransitions = 17
 numberOf NotConverged = 18
 numberOf Unrepresentable = 19
 
--- refusals 1 to 19; 13 at row 0
+-- all refusals, 13 at row 0
 abbrev pub refusals : List Refusal
 refusals =
     Configuration ∷
@@ -54,13 +54,18 @@ refusals =
     Unrepresentable ∷
     []
 
--- the refusal of a number from 1 to 19
-abbrev pub refusal : ℕ → Refusal
-refusal k = getD refusals (k - 1) Configuration
+-- the refusal of a list that has the number k
+abbrev pub refusedBy : List Refusal → ℕ → Check
+refusedBy [] k = Fine
+refusedBy (r ∷ rs) k = cond (eqb (numberOf r) k) (Refused r) (refusedBy rs k)
+
+-- refusal k; a number that no refusal has refuses nothing
+abbrev pub refusal : ℕ → Check
+refusal k = refusedBy refusals k
 
 -- refusal k where the test holds
 abbrev pub refuseIf : Bool → ℕ → Check
-refuseIf true k = Refused (refusal k)
+refuseIf true k = refusal k
 refuseIf false k = Fine
 
 -- the first refusal of two checks

@@ -2,7 +2,7 @@
 ghost use mathlib.Core.Path.{_≡_};
 ghost use Rattle.refusals.specs.Refusals.{numberOf, checkNumber, rowOr};
 
-// Document 01's refusals, in the order of their numbers: `numberOf` of specs/Refusals.antt.
+// Document 01's refusals; the number of each is `numberOf` of specs/Refusals.antt.
 pub enum Refusal {
     Configuration,
     OverDomain,

@@ -1,5 +1,5 @@
 -- Sums of signed words: their sizes, that they fit, and what they are.
-use Prim.Native.Nat.{ℕ, zero, suc, _+_, _-_, _^_, _≤_, _<_}
+use Prim.Native.Nat.{ℕ, zero, suc, _+_, _-_, _*_, _^_, _≤_, _<_}
 use mathlib.Core.Path.{_≡_, refl, sym, ap, _∙_}
 use mathlib.Core.Bool.{Bool, true, false, cond, _&&_, _||_, or-false, and-true}
 use native.Mathlib.Omega.{arith}
@@ -10,7 +10,8 @@ use mir.Syntax.{w64}
 use mir.Val.{SFits, toZ, ofZ}
 use mir.Facts.{toZ-ofZ}
 use borrow.Author.Tests.{lt-ltb, le-ltb, lt-leb, ltb-true, ltb-false, leb-true}
-use Rattle.tally.specs.Totals.{cellLimit, change, within}
+use Rattle.basics.specs.Domain.{cellLimit, mostHalfTicks}
+use Rattle.tally.specs.Totals.{change, within}
 
 size-cond : (t : Bool) (x y : ℤ) (n : ℕ) → natAbs x ≤ n → natAbs y ≤ n → natAbs (cond t x y) ≤ n
 size-cond true x y n p q = p
@@ -53,7 +54,7 @@ change-neg a b =
 pub change-size : (a b : ℕ) → natAbs (change a b) ≤ a + b
 change-size a b = omega (arith, size-add (pos b) (negℤ (pos a)), size-neg (pos a))
 
-module _ (a b : ℕ) (p : a ≤ 2000000000) (q : b ≤ 2000000000) where
+module _ (a b : ℕ) (p : a ≤ mostHalfTicks) (q : b ≤ mostHalfTicks) where
   change-mag : mag (change a b) < 2 ^ 63
   change-mag = omega (arith, change-size a b, mag-le (change a b))
 
@@ -74,33 +75,33 @@ module _ (a b : ℕ) (p : a ≤ 2000000000) (q : b ≤ 2000000000) where
     sum-is = rw (change-is, back total (omega (arith, mag-le total))) (back (total +ℤ change a b) sum-mag)
 
 -- the test of the two ends is the test of the size
-pub within-ends : (z : ℤ) → (leZ (negsuc 9007199254740991) z && leZ z (pos 9007199254740992)) ≡ within z
+pub within-ends : (z : ℤ) → (leZ (negℤ (pos cellLimit)) z && leZ z (pos cellLimit)) ≡ within z
 within-ends (pos n) = refl
-within-ends (negsuc n) = and-true (leb n 9007199254740991) ∙ sym (leb·suc-suc n 9007199254740991)
+within-ends (negsuc n) = and-true (leb n (cellLimit - 1)) ∙ sym (leb·suc-suc n (cellLimit - 1))
 
 pub within-size : (z : ℤ) → within z ≡ true → natAbs z ≤ cellLimit
 within-size z e = leb-true (natAbs z) cellLimit e
 
 -- the test for a total far outside is a test of its size
 abbrev isFar : ℤ → Bool
-isFar z = ltZ z (negsuc 18014398509481983) || ltZ (pos 18014398509481984) z
+isFar z = ltZ z (negℤ (pos (2 * cellLimit))) || ltZ (pos (2 * cellLimit)) z
 
-outside : (z : ℤ) → isFar z ≡ ltb 18014398509481984 (natAbs z)
+outside : (z : ℤ) → isFar z ≡ ltb (2 * cellLimit) (natAbs z)
 outside (pos n) = refl
-outside (negsuc n) = or-false (ltb 18014398509481983 n) ∙ sym (leb·suc-suc (suc 18014398509481983) n)
+outside (negsuc n) = or-false (ltb (2 * cellLimit - 1) n) ∙ sym (leb·suc-suc (2 * cellLimit) n)
 
 -- the code makes it of the word that holds the total
 module _ (total : ℤ) (h : mag total < 2 ^ 63) where
-  far-size : (b : Bool) → isFar (toZ w64 (ofZ w64 total)) ≡ b → ltb 18014398509481984 (natAbs total) ≡ b
+  far-size : (b : Bool) → isFar (toZ w64 (ofZ w64 total)) ≡ b → ltb (2 * cellLimit) (natAbs total) ≡ b
   far-size b e = sym (outside total) ∙ (rw (back total h) at e)
 
-  pub far : isFar (toZ w64 (ofZ w64 total)) ≡ true → (d : ℤ) → natAbs d ≤ 2 ^ 53 → within (total +ℤ d) ≡ false
+  pub far : isFar (toZ w64 (ofZ w64 total)) ≡ true → (d : ℤ) → natAbs d ≤ cellLimit → within (total +ℤ d) ≡ false
   far e d s =
       lt-leb (natAbs (total +ℤ d)) cellLimit
-      (omega (arith, size-part total d, ltb-true 18014398509481984 (natAbs total) (far-size true e)))
+      (omega (arith, size-part total d, ltb-true (2 * cellLimit) (natAbs total) (far-size true e)))
 
   pub near : isFar (toZ w64 (ofZ w64 total)) ≡ false → natAbs total < 2 ^ 60
-  near e = omega (arith, ltb-false 18014398509481984 (natAbs total) (far-size false e))
+  near e = omega (arith, ltb-false (2 * cellLimit) (natAbs total) (far-size false e))
 
 -- the distance is the change's size
 pub distance-down : (a b : ℕ) → b < a → a - b ≡ natAbs (change a b)

@@ -14,7 +14,8 @@ use borrow.Author.Tests.{le-ltb, lt-ltb, ltb-true, ltb-false, not-false, leb-tru
 use Rattle.basics.proofs.Tests.{zero-not-one, neither, fails, le-or-lt}
 use Rattle.basics.proofs.Lists.{flat-below}
 use Rattle.basics.proofs.Stores.{at-same, at-first, at-second}
-use Rattle.tally.specs.Totals.{cellLimit, change, within, addAt}
+use Rattle.basics.specs.Domain.{cellLimit}
+use Rattle.tally.specs.Totals.{change, within, addAt}
 use Rattle.tally.proofs.Sums.{within-size, size-part, size-neg, distance-down, distance-up}
 use Rattle.tally.specs.Entries.{Tables, tables, isZero, bump, bumpIf, enterBoth, overCell, overTotal, touchedOver}
 use Rattle.tally.specs.Inner.{forthOf, backOf, Placed, cellsOver, totalsOver}
@@ -41,39 +42,39 @@ one-more-within x m = go (ltb x m) refl
     go false e = ap not (lt-ltb m (x + 1) (omega (arith, ltb-false x m e)))
 
 module _ (l : List ℕ) where
-  pub cells-same : (a : ℕ) → a < length l → leb (getD l a 0) 9007199254740990 ≡ not (cellsOver l a a)
+  pub cells-same : (a : ℕ) → a < length l → leb (getD l a 0) (cellLimit - 2) ≡ not (cellsOver l a a)
   cells-same a h =
       let e : getD (bump (bump l a) a) a 0 ≡ getD l a 0 + 2 = at-same 0 (λ x. x + 1) (λ x. x + 1) l a h ∙ omega arith in
-      rw (e, or-self) (sym (more-within (getD l a 0) 2 9007199254740990))
+      rw (e, or-self) (sym (more-within (getD l a 0) 2 (cellLimit - 2)))
 
   pub cells-other : (a b : ℕ) → a < length l → b < length l → a ≢ b
-      → (ltb (getD l a 0) 9007199254740992 && ltb (getD l b 0) 9007199254740992) ≡ not (cellsOver l a b)
+      → (ltb (getD l a 0) cellLimit && ltb (getD l b 0) cellLimit) ≡ not (cellsOver l a b)
   cells-other a b h k n =
       rw (
         at-first 0 (λ x. x + 1) (λ x. x + 1) l a b h n,
         at-second 0 (λ x. x + 1) (λ x. x + 1) l a b k (λ e. n (sym e)),
         not-or,
-        one-more-within (getD l a 0) 9007199254740992,
-        one-more-within (getD l b 0) 9007199254740992,
+        one-more-within (getD l a 0) cellLimit,
+        one-more-within (getD l b 0) cellLimit,
       )
 
   pub cells-flat : (a b k : ℕ) → a < length l → b < length l → (a ≡ b → k ≡ 1) → (a ≢ b → k ≡ 0)
-      → (ltb (getD l a 0) (9007199254740992 - k) && ltb (getD l b 0) 9007199254740992) ≡ not (cellsOver l a b)
+      → (ltb (getD l a 0) (cellLimit - k) && ltb (getD l b 0) cellLimit) ≡ not (cellsOver l a b)
   cells-flat a b k h g one none = go (ℕ-discrete a b)
     where
-      under : (x : ℕ) → (ltb x 9007199254740991 && ltb x 9007199254740992) ≡ leb x 9007199254740990
-      under x = pick (leb x 9007199254740990) refl
+      under : (x : ℕ) → (ltb x (cellLimit - 1) && ltb x cellLimit) ≡ leb x (cellLimit - 2)
+      under x = pick (leb x (cellLimit - 2)) refl
         where
-          pick : (t : Bool) → leb x 9007199254740990 ≡ t → (ltb x 9007199254740991 && ltb x 9007199254740992) ≡ t
+          pick : (t : Bool) → leb x (cellLimit - 2) ≡ t → (ltb x (cellLimit - 1) && ltb x cellLimit) ≡ t
           pick true e =
               rw (
-                lt-ltb x 9007199254740991 (omega (arith, leb-true x 9007199254740990 e)),
-                lt-ltb x 9007199254740992 (omega (arith, leb-true x 9007199254740990 e)),
+                lt-ltb x (cellLimit - 1) (omega (arith, leb-true x (cellLimit - 2) e)),
+                lt-ltb x cellLimit (omega (arith, leb-true x (cellLimit - 2) e)),
               )
-          pick false e = rw (le-ltb x 9007199254740991 (omega (arith, leb-false x 9007199254740990 e)))
+          pick false e = rw (le-ltb x (cellLimit - 1) (omega (arith, leb-false x (cellLimit - 2) e)))
 
-      go : Dec (a ≡ b) → (ltb (getD l a 0) (9007199254740992 - k) && ltb (getD l b 0) 9007199254740992) ≡ not (cellsOver l a b)
-      go (yes q) = subst (λ (z : ℕ). (ltb (getD l a 0) (9007199254740992 - k) && ltb (getD l z 0) 9007199254740992) ≡ not (cellsOver l a z)) q
+      go : Dec (a ≡ b) → (ltb (getD l a 0) (cellLimit - k) && ltb (getD l b 0) cellLimit) ≡ not (cellsOver l a b)
+      go (yes q) = subst (λ (z : ℕ). (ltb (getD l a 0) (cellLimit - k) && ltb (getD l z 0) cellLimit) ≡ not (cellsOver l a z)) q
           (rw (one q) (under (getD l a 0) ∙ cells-same a h))
       go (no q) = rw (none q) (cells-other a b h g q)
 

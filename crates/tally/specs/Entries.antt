@@ -6,7 +6,8 @@ use lib.Dec.{ltb}
 use lib.IntN.{ℤ, pos, negsuc, negℤ}
 use lib.ListN.{getD, set}
 use Rattle.basics.specs.Lists.{cellIndex}
-use Rattle.tally.specs.Totals.{cellLimit, change, within, addAt}
+use Rattle.basics.specs.Domain.{cellLimit}
+use Rattle.tally.specs.Totals.{change, within, addAt}
 
 -- from a state to a state with a change of the mid
 pub record Entry : Type 0 where

@@ -4,6 +4,7 @@ use mathlib.Core.Bool.{Bool, _||_}
 use mathlib.Core.List.{List}
 use lib.IntN.{ℤ, pos, negℤ}
 use lib.ListN.{getD}
+use Rattle.basics.specs.Domain.{mostHalfTicks}
 use Rattle.tally.specs.Totals.{change, addAt}
 use Rattle.tally.specs.declared.PairEntry.{PairEntry}
 use Rattle.tally.specs.Entries.{Entry, forth, bump, overCell, overTotal}
@@ -35,5 +36,5 @@ pub record Placed (n : ℕ) (e : PairEntry) (stay moved totals : ℕ) : Type 0 w
   pub stay-cells : stay ≡ n * n
   pub moved-cells : moved ≡ n * n
   pub totals-cells : totals ≡ n
-  pub mid-from-most : e .«mid_from» ≤ 2000000000
-  pub mid-to-most : e .«mid_to» ≤ 2000000000
+  pub mid-from-most : e .«mid_from» ≤ mostHalfTicks
+  pub mid-to-most : e .«mid_to» ≤ mostHalfTicks

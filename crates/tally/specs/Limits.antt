@@ -1,15 +1,12 @@
 -- Refusal 6: document 01, "New, and one quote".
-use Prim.Native.Nat.{ℕ, _^_}
+use Prim.Native.Nat.{ℕ}
 use mathlib.Core.Bool.{Bool, false, _||_}
 use lib.Dec.{ltb}
 use lib.ListN.{getD}
 use Rattle.basics.specs.Lists.{any}
+use Rattle.basics.specs.Domain.{counterLimit}
 use Rattle.tally.specs.Entries.{overCell, overTotal, touchedOver, forth, back}
 use Rattle.tally.specs.Events.{Event, first, skip, pair, Counts}
-
--- the limit of a counter of pairs or skips
-abbrev pub counterLimit : ℕ
-counterLimit = 2 ^ 52
 
 abbrev pub overCounter : ℕ → Bool
 overCounter n = ltb counterLimit n

@@ -1,14 +1,11 @@
 -- Changes of the mid and the totals that they are added to: document 01, "New, and one quote".
-use Prim.Native.Nat.{ℕ, _^_}
+use Prim.Native.Nat.{ℕ}
 use mathlib.Core.Bool.{Bool}
 use mathlib.Core.List.{List}
 use lib.Dec.{leb}
 use lib.IntN.{ℤ, pos, natAbs, _+ℤ_, _-ℤ_}
 use lib.ListN.{getD, set}
-
--- the limit of a cell, and of a total's size
-abbrev pub cellLimit : ℕ
-cellLimit = 2 ^ 53
+use Rattle.basics.specs.Domain.{cellLimit}
 
 -- the change is new minus last
 abbrev pub change : ℕ → ℕ → ℤ

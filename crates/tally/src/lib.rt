@@ -1,6 +1,8 @@
 // Counting pairs into tables. Inner functions: for the crates above, not for users. Where one has a `requires`, each caller proves it.
 pub mod totals;
 
+use basics::CELL_LIMIT;
+use basics::COUNTER_LIMIT;
 ghost use mathlib.Core.Path.{_≡_};
 ghost use mathlib.Core.Logic.{_≢_};
 ghost use mathlib.Core.Bool.{not, false};
@@ -9,6 +11,7 @@ ghost use lib.ListN.{length};
 ghost use lib.IntN.{negℤ};
 ghost use Rattle.basics.specs.Lists.{cellIndex};
 ghost use Rattle.basics.specs.Loan.{given, final};
+ghost use Rattle.basics.specs.Domain.{mostHalfTicks};
 ghost use Rattle.tally.specs.Totals.{change, addAt};
 ghost use Rattle.tally.specs.Entries.{bump, tables, enterBoth, touchedOver};
 ghost use Rattle.tally.specs.Inner.{forthOf, backOf, Placed, cellsOver, totalsOver};
@@ -23,11 +26,6 @@ pub struct PairEntry {
     pub mid_from: u64,
     pub mid_to: u64,
 }
-
-// The limit of a counter of pairs or skips, 2^52, and of a cell, 2^53.
-const COUNTER_LIMIT: u64 = 4503599627370496;
-
-const CELL_LIMIT: u64 = 9007199254740992;
 
 // Whether a counter, whatever it is, may be added to.
 pub fn may_count(counter: u64) -> bool
@@ -73,7 +71,7 @@ fn add_cells(t: &mut [u64], a: usize, b: usize)
 }
 
 fn totals_within(t: &[i64], a: usize, b: usize, from: u64, to: u64) -> bool
-    requires { ⌜ (a < length (now t)) × (b < length (now t)) × (from ≤ 2000000000) × (to ≤ 2000000000) ⌝ }
+    requires { ⌜ (a < length (now t)) × (b < length (now t)) × (from ≤ mostHalfTicks) × (to ≤ mostHalfTicks) ⌝ }
     ensures { λ r. ⌜ r ≡ not (totalsOver (given t) a b (change from to)) ⌝ }
 {
     if a == b {
@@ -85,7 +83,7 @@ fn totals_within(t: &[i64], a: usize, b: usize, from: u64, to: u64) -> bool
 }
 
 fn add_totals(t: &mut [i64], a: usize, b: usize, from: u64, to: u64)
-    requires { ⌜ (a < length (now t)) × (b < length (now t)) × (from ≤ 2000000000) × (to ≤ 2000000000) × (totalsOver (now t) a b (change from to) ≡ false) ⌝ }
+    requires { ⌜ (a < length (now t)) × (b < length (now t)) × (from ≤ mostHalfTicks) × (to ≤ mostHalfTicks) × (totalsOver (now t) a b (change from to) ≡ false) ⌝ }
     ensures { λ r. ⌜ final t ≡ addAt (addAt (given t) a (change from to)) b (negℤ (change from to)) ⌝ }
 {
     totals::add_at(t, a, from, to);

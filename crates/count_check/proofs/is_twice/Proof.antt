@@ -1,5 +1,5 @@
--- `count_check::is_twice` meets its contract: two sums, each cut off at 2^53 + 1, make twice the pairs exactly where the whole sums do, as twice the pairs is
--- at most 2^53 (`twice-is`). No loop here; the sums are `sum_capped`.
+-- `count_check::is_twice` meets its contract: two sums, each cut off at `sumCap`, make twice the pairs exactly where the whole sums do, as twice the pairs
+-- is below that (`twice-is`). No loop here; the sums are `sum_capped`.
 use mathlib.Core.List.{[]}
 use borrow.Author.Needs.{needs}
 use Rattle.tally.specs.Entries.{Tables, tables}

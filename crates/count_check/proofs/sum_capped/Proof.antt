@@ -1,4 +1,4 @@
--- `count_check::sum_capped` meets its contract: a sum of n cells, cut off at 2^53 + 1. Loop over i, measure n − i; invariant: the sum so far, at most the cap,
+-- `count_check::sum_capped` meets its contract: a sum of n cells, cut off at `sumCap`. Loop over i, measure n − i; invariant: the sum so far, at most the cap,
 -- and the cells from i on make, cut off, the sum of all cells, cut off. `sum-step` adds one cell; at the end no cell is left (`sum-end`).
 use Prim.Native.Nat.{_+_, _-_, _≤_, min}
 use mathlib.Core.Path.{_≡_, ap, _∙_}
@@ -6,7 +6,7 @@ use native.Mathlib.Omega.{arith}
 use lib.ListN.{drop}
 use borrow.Author.Count.{falls}
 use Rattle.basics.specs.Lists.{sum}
-use Rattle.count_check.specs.Inner.{cellsIn}
+use Rattle.count_check.specs.Inner.{cellsIn, sumCap}
 use Rattle.count_check.proofs.Sums.{sum-step, sum-end}
 use Rattle.count_check.proofs.Readings.{cells-length}
 use Rattle.count_check.proofs.sum_capped.Statement.{statement}
@@ -14,13 +14,13 @@ use Rattle.count_check.proofs.sum_capped.Tie as tie
 
 abbrev Inv-loop : tie.InvT-loop
 Inv-loop t b imaged n a₀ i₀ a i =
-    (a ≤ 9007199254740993) × (min 9007199254740993 (a + sum (drop i (cellsIn imaged t b))) ≡ min 9007199254740993 (sum (cellsIn imaged t b)))
+    (a ≤ sumCap) × (min sumCap (a + sum (drop i (cellsIn imaged t b))) ≡ min sumCap (sum (cellsIn imaged t b)))
 
 abbrev μ-loop : tie.MeasureT-loop
 μ-loop t b imaged n a₀ i₀ a i = n - i
 
 loop-holds : tie.Need-loop-holds Inv-loop μ-loop
-loop-holds c = (omega arith, ap (min 9007199254740993) (omega arith))
+loop-holds c = (omega arith, ap (min sumCap) (omega arith))
 
 cell-in-requires : tie.Need-cell-in-requires Inv-loop μ-loop
 cell-in-requires c κs =

@@ -4,13 +4,14 @@ use Prim.Native.Nat.{ℕ, _-_, _+_, _*_, _/_}
 use mathlib.Core.Path.{_≡_, sym, ap, _∙_}
 use native.Mathlib.Omega.{arith}
 use Rattle.basics.proofs.Tests.{fits-mul}
+use Rattle.basics.specs.Domain.{most}
 use Rattle.quotes.proofs.Buckets.{by-division}
 use borrow.Author.Needs.{needs}
 use Rattle.quotes.proofs.inner.lower_bucket.Statement.{statement}
 use Rattle.quotes.proofs.inner.lower_bucket.Tie as tie
 
 mul-larger : tie.Need-mul-larger
-mul-larger c = fits-mul 1000000000 256 (omega arith) (omega arith) tt
+mul-larger c = fits-mul most 256 (omega arith) (omega arith) tt
 
 returns : tie.Need-returns
 returns c =
