@@ -6,7 +6,7 @@
  * anything in the process changes the rounding or unmasks exceptions. The other functions need nothing of it.
  *
  *     uint32_t was = micro_price_env_set();
- *     uint64_t answer = micro_price_check_model(config, 5, model, model_len, &row);
+ *     uint64_t answer = micro_price_check_model(config, MICRO_PRICE_CONFIG_WORDS, model, model_len, &row);
  *     micro_price_env_restore(was);
  *
  * The control word is each thread's own: the pair stands on the thread that makes the call. Exception flags that are raised

@@ -12,6 +12,7 @@ use market_maker_rs::analytics::micro_price::{
     MicroPriceCalibrator, MicroPriceFit, MicroPriceModel, MicroPriceSignal, SignalSource,
     StateStatus, TopOfBook,
 };
+use micro_price::sys::{self, SIGNAL_WORDS};
 use port::Port;
 use rust_decimal::Decimal;
 use rust_decimal::prelude::FromPrimitive;
@@ -55,10 +56,7 @@ fn counted(config: Config, mut stream: Stream) -> plain::Calibrator {
 /// The three have the same counters and tables.
 fn assert_same(original: &MicroPriceCalibrator, port: &Port, plain: &plain::Calibrator) {
     let r = &plain.record;
-    assert!(
-        r.pairs > 0 && r.spread_skips > 0 && r.gap_skips > 0,
-        "each kind is met"
-    );
+    assert!(r.pairs > 0 && r.spread > 0 && r.gap > 0, "each kind is met");
     assert!(
         Port::of(plain) == *port,
         "port and plain Rust count the same"
@@ -68,12 +66,8 @@ fn assert_same(original: &MicroPriceCalibrator, port: &Port, plain: &plain::Cali
         tables(plain),
         "the original's tables"
     );
-    assert_eq!(
-        original.skipped_spread_pairs(),
-        r.spread_skips,
-        "spread skips"
-    );
-    assert_eq!(original.skipped_gap_pairs(), r.gap_skips, "gap skips");
+    assert_eq!(original.skipped_spread_pairs(), r.spread, "spread skips");
+    assert_eq!(original.skipped_gap_pairs(), r.gap, "gap skips");
     let largest = original.largest_mid_move_ticks() * Decimal::TWO;
     assert_eq!(largest, Decimal::from(r.largest), "largest change");
 }
@@ -121,8 +115,8 @@ fn fits(name: &str, counts: &plain::Calibrator, expected: Option<u64>, runs: usi
     let states = counts.config.states();
     let original = rust::calibrator_of(&tables(counts)).expect("tables that the Rust takes");
     let port = Port::of(counts);
-    let mut scratch = vec![0.0; states * (2 * states + 10)];
-    let mut table = vec![0; 7 * states];
+    let mut scratch = vec![0.0; sys::scratch_length(states)];
+    let mut table = vec![0; sys::model_length(states)];
     let wanted: Fit = rust::fit(&original);
     assert_eq!(
         wanted.as_ref().err(),
@@ -171,7 +165,11 @@ fn source_number(source: SignalSource) -> u64 {
     }
 }
 
-fn same_signal(original: &MicroPriceSignal, port: &[u64; 4], plain: &plain::Signal) -> bool {
+fn same_signal(
+    original: &MicroPriceSignal,
+    port: &[u64; SIGNAL_WORDS],
+    plain: &plain::Signal,
+) -> bool {
     let [time, mid_sum, bits, source] = *port;
     let adjustment = f64::from_bits(bits);
     (time, mid_sum, adjustment, source) == *plain
@@ -190,9 +188,9 @@ fn signals(counts: &plain::Calibrator) {
         other => panic!("no model: {other:?}"),
     };
     let rows = counts.fit().expect("a model of plain Rust");
-    let (words, table) = (port::words(&config), port::table(&rows));
+    let (words, table) = (config.words(), port::table(&rows));
     let mut stream = Stream::new(config, 2);
-    let mut sent = vec![[0; 4]; QUOTES];
+    let mut sent = vec![[0; SIGNAL_WORDS]; QUOTES];
     let (mut originals, mut plains) = (Vec::new(), Vec::new());
     let mut row = 0;
     let mut runs = Vec::new();
@@ -241,7 +239,7 @@ fn images(counts: &plain::Calibrator) {
     let states = counts.config.states();
     let mut port = Port::of(counts);
     let mut plain = counts.clone();
-    let mut image = vec![0; plain::image_length(states)];
+    let mut image = vec![0; sys::image_length(states)];
     let mut plain_image = image.clone();
     let source = vec![1u8; image.len()];
     let mut copy = source.clone();

@@ -1,12 +1,14 @@
 //! The calibrator in plain Rust: whole numbers, flat tables, nothing proved. It gives document 01's answers, and like the port
 //! it judges everything at every call, its configuration, lengths and last quote too.
 
-use driver::paper::{Config, DOMAIN, Quote, Row};
+use driver::paper::{Config, DOMAIN, MAX_STATES, Quote, Record, Row};
+use driver::plain::{
+    HEADER, HEADER_WORDS, MOST_IN_CELL, MOST_PAIRS, MOST_TOTAL, config_in, header, image_length,
+    record_in,
+};
+use std::array;
 
-const COUNTERS: u64 = 1 << 52;
-const CELLS: u64 = 1 << 53;
-const TOTALS: i64 = 1 << 53;
-const HEADER: usize = 160;
+const TOTALS: i64 = MOST_TOTAL.cast_signed();
 
 /// The number of a refusal.
 pub type Refusal = u64;
@@ -14,10 +16,10 @@ pub type Refusal = u64;
 /// The number of states of a valid configuration.
 fn states(c: &Config) -> Result<usize, Refusal> {
     let valid = (1..=DOMAIN).contains(&c.tick)
-        && (3..=256).contains(&c.buckets)
+        && (3..=MAX_STATES).contains(&c.buckets)
         && c.buckets % 2 == 1
-        && (1..=256).contains(&c.spreads)
-        && c.buckets * c.spreads <= 256
+        && (1..=MAX_STATES).contains(&c.spreads)
+        && c.buckets * c.spreads <= MAX_STATES
         && c.least >= 1
         && c.gap >= 1;
     if valid {
@@ -69,15 +71,6 @@ fn mirror(buckets: usize, state: usize) -> usize {
     state - bucket + buckets - 1 - bucket
 }
 
-#[derive(Debug, Clone, Default, PartialEq)]
-pub struct Record {
-    pub last: Option<Quote>,
-    pub pairs: u64,
-    pub spread_skips: u64,
-    pub gap_skips: u64,
-    pub largest: u64,
-}
-
 #[derive(Debug, Clone, PartialEq)]
 pub struct Calibrator {
     pub config: Config,
@@ -124,9 +117,9 @@ impl Calibrator {
         }
         let (last_spread, spread) = (last_ask - last_bid, ask - bid);
         let counter = if quote.time - last.time > c.gap {
-            &mut record.gap_skips
+            &mut record.gap
         } else if u64::from(last_spread) > c.spreads || u64::from(spread) > c.spreads {
-            &mut record.spread_skips
+            &mut record.spread
         } else {
             let from = place(c, last_spread, &last);
             let to = place(c, spread, quote);
@@ -138,7 +131,7 @@ impl Calibrator {
             };
             let own = from.0 * states + to.0;
             let other = from.1 * states + to.1;
-            if record.pairs >= COUNTERS
+            if record.pairs >= MOST_PAIRS
                 || !cells_fit(table, own, other)
                 || !totals_fit(&self.totals, from, change)
             {
@@ -151,7 +144,7 @@ impl Calibrator {
             record.largest = record.largest.max(change.unsigned_abs());
             &mut record.pairs
         };
-        if *counter >= COUNTERS {
+        if *counter >= MOST_PAIRS {
             return Err(6);
         }
         *counter += 1;
@@ -163,9 +156,9 @@ impl Calibrator {
 #[inline(always)]
 fn cells_fit(table: &[u64], own: usize, other: usize) -> bool {
     if own == other {
-        table[own] <= CELLS - 2
+        table[own] <= MOST_IN_CELL - 2
     } else {
-        table[own] < CELLS && table[other] < CELLS
+        table[own] < MOST_IN_CELL && table[other] < MOST_IN_CELL
     }
 }
 
@@ -213,9 +206,9 @@ fn check_counts<C: Word, T: Word>(
 ) -> Result<(), Refusal> {
     let (states, buckets) = (totals.len(), c.buckets as usize);
     let total = |state: usize| totals[state].word() as i64;
-    let counters = [record.pairs, record.spread_skips, record.gap_skips];
+    let counters = [record.pairs, record.spread, record.gap];
     let over = |state| !(-TOTALS..=TOTALS).contains(&total(state));
-    if counters.iter().any(|k| *k > COUNTERS) || (0..states).any(over) {
+    if counters.iter().any(|k| *k > MOST_PAIRS) || (0..states).any(over) {
         return Err(6);
     }
     let mut sum = 0u64;
@@ -249,42 +242,6 @@ fn last_is_sound(c: &Config, record: &Record) -> Result<(), Refusal> {
         Some(last) => in_ticks(c, last).map(|_| ()).map_err(|_| 8),
         None => Ok(()),
     }
-}
-
-/// The length of the image of a calibrator.
-pub fn image_length(states: usize) -> usize {
-    HEADER + 16 * states * states + 8 * states
-}
-
-fn header(c: &Config, record: &Record) -> [u64; 20] {
-    let states = c.buckets * c.spreads;
-    let cells = states * states;
-    let (known, q) = match record.last {
-        Some(q) => (1, [q.time, q.bid, q.ask, q.bid_size, q.ask_size]),
-        None => (0, [0; 5]),
-    };
-    [
-        states,
-        c.buckets,
-        c.spreads,
-        c.tick,
-        c.least,
-        c.gap,
-        160,
-        160 + 8 * cells,
-        160 + 16 * cells,
-        known,
-        q[0],
-        q[1],
-        q[2],
-        q[3],
-        q[4],
-        record.pairs,
-        record.spread_skips,
-        record.gap_skips,
-        record.largest,
-        160 + 16 * cells + 8 * states,
-    ]
 }
 
 fn put<W: Word>(out: &mut [u8], words: &[W]) {
@@ -330,34 +287,13 @@ impl Calibrator {
         if image.len() < HEADER {
             return Err(12);
         }
-        let (head, body) = words.split_at(HEADER / 8);
-        let word = |i: usize| head[i].word();
-        let config = Config {
-            tick: word(3),
-            buckets: word(1),
-            spreads: word(2),
-            least: word(4),
-            gap: word(5),
-        };
+        let (head, body) = words.split_at(HEADER_WORDS);
+        let head: [u64; HEADER_WORDS] = array::from_fn(|i| head[i].word());
+        let config = config_in(&head);
         let states = states(&config)?;
         let cells = states * states;
-        let record = Record {
-            last: (word(9) == 1).then(|| Quote {
-                time: word(10),
-                bid: word(11),
-                ask: word(12),
-                bid_size: word(13),
-                ask_size: word(14),
-            }),
-            pairs: word(15),
-            spread_skips: word(16),
-            gap_skips: word(17),
-            largest: word(18),
-        };
-        let same = head
-            .iter()
-            .zip(header(&config, &record))
-            .all(|(a, b)| a.word() == b);
+        let record = record_in(&head);
+        let same = head == header(&config, &record);
         if !same || image.len() != image_length(states) || !rest.is_empty() {
             return Err(12);
         }

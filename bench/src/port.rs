@@ -2,16 +2,12 @@
 
 use crate::plain;
 use driver::paper::{Config, Quote, Row, bits};
-use micro_price::sys;
-
-pub fn words(c: &Config) -> [u64; 5] {
-    [c.tick, c.buckets, c.spreads, c.least, c.gap]
-}
+use micro_price::sys::{self, CONFIG_WORDS, RECORD_WORDS, ROW_WORDS, SIGNAL_WORDS};
 
 #[derive(Clone, PartialEq)]
 pub struct Port {
-    pub config: [u64; 5],
-    pub rec: [u64; 10],
+    pub config: [u64; CONFIG_WORDS],
+    pub rec: [u64; RECORD_WORDS],
     pub stay: Vec<u64>,
     pub moved: Vec<u64>,
     pub totals: Vec<i64>,
@@ -21,8 +17,8 @@ impl Port {
     pub fn new(config: &Config) -> Self {
         let states = config.states();
         Self {
-            config: words(config),
-            rec: [0; 10],
+            config: config.words(),
+            rec: [0; RECORD_WORDS],
             stay: vec![0; states * states],
             moved: vec![0; states * states],
             totals: vec![0; states],
@@ -31,25 +27,9 @@ impl Port {
 
     /// The memory of a calibrator in plain Rust.
     pub fn of(plain: &plain::Calibrator) -> Self {
-        let r = &plain.record;
-        let [known, time, bid, ask, bid_size, ask_size] = match r.last {
-            Some(q) => [1, q.time, q.bid, q.ask, q.bid_size, q.ask_size],
-            None => [0; 6],
-        };
         Self {
-            config: words(&plain.config),
-            rec: [
-                known,
-                time,
-                bid,
-                ask,
-                bid_size,
-                ask_size,
-                r.pairs,
-                r.spread_skips,
-                r.gap_skips,
-                r.largest,
-            ],
+            config: plain.config.words(),
+            rec: plain.record.words(),
             stay: plain.stay.clone(),
             moved: plain.moved.clone(),
             totals: plain.totals.clone(),
@@ -144,7 +124,13 @@ impl Port {
 }
 
 #[inline(always)]
-pub fn signal(config: &[u64], model: &[u64], q: &Quote, out: &mut [u64; 4], row: &mut u64) -> u64 {
+pub fn signal(
+    config: &[u64],
+    model: &[u64],
+    q: &Quote,
+    out: &mut [u64; SIGNAL_WORDS],
+    row: &mut u64,
+) -> u64 {
     // SAFETY: as above.
     unsafe {
         sys::micro_price_signal(
@@ -167,7 +153,7 @@ pub fn signal(config: &[u64], model: &[u64], q: &Quote, out: &mut [u64; 4], row:
 /// The words of a model table.
 pub fn table(rows: &[Row]) -> Vec<u64> {
     rows.iter()
-        .flat_map(|r| {
+        .flat_map(|r| -> [u64; ROW_WORDS] {
             [
                 r.bucket,
                 r.spread,

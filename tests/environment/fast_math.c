@@ -17,13 +17,13 @@
 #define CHAIN (3 * LINKS)
 #define OBSERVED ((uint64_t)1 << 44)
 
-static const uint64_t chain_config[5] = {2, 3, LINKS, 1, 1000};
-static uint64_t chain_rec[10];
-static uint64_t chain_stay[CHAIN * CHAIN];
-static uint64_t chain_moved[CHAIN * CHAIN];
+static const uint64_t chain_config[MICRO_PRICE_CONFIG_WORDS] = {2, 3, LINKS, 1, 1000};
+static uint64_t chain_rec[MICRO_PRICE_RECORD_WORDS];
+static uint64_t chain_stay[MICRO_PRICE_CELLS(CHAIN)];
+static uint64_t chain_moved[MICRO_PRICE_CELLS(CHAIN)];
 static int64_t chain_totals[CHAIN];
-static double chain_scratch[CHAIN * (2 * CHAIN + 10)];
-static uint64_t chain_model[ROW_WORDS * CHAIN];
+static double chain_scratch[MICRO_PRICE_SCRATCH(CHAIN)];
+static uint64_t chain_model[MICRO_PRICE_MODEL(CHAIN)];
 
 static void make_chain(void) {
     size_t link;
@@ -45,12 +45,12 @@ static void make_chain(void) {
 }
 
 static uint64_t fit_chain(void) {
-    return micro_price_fit_counts(chain_config, 5, chain_rec, 10, chain_stay, CHAIN * CHAIN, chain_moved, CHAIN * CHAIN,
-                                  chain_totals, CHAIN, chain_scratch, CHAIN * (2 * CHAIN + 10), chain_model, ROW_WORDS * CHAIN);
+    return micro_price_fit_counts(SLICE(chain_config), SLICE(chain_rec), SLICE(chain_stay), SLICE(chain_moved), SLICE(chain_totals),
+                                  SLICE(chain_scratch), SLICE(chain_model));
 }
 
 static uint64_t chain_adjustment(size_t state) {
-    return chain_model[ROW_WORDS * state + ROW_ADJUSTMENT];
+    return chain_model[MICRO_PRICE_ROW_WORDS * state + ROW_ADJUSTMENT];
 }
 
 /* By hand: K is 0 but for the last link, -1 there; Q is 2^-44 from link to link, so G1 of a link that is k before the last is
@@ -72,7 +72,7 @@ static int chain_by_hand(void) {
 }
 
 static void check_in_both(void) {
-    uint64_t model[ROW_WORDS * STATES];
+    uint64_t model[MODEL];
     uint64_t row = 77;
     uint32_t was;
     uint64_t answer;
@@ -97,7 +97,7 @@ static void fit_chain_in_both(void) {
 
 static void fit_example(void) {
     struct calibrator c;
-    uint64_t model[ROW_WORDS * STATES];
+    uint64_t model[MODEL];
     uint64_t answer;
     uint32_t was;
     memset(model, 0xa5, sizeof model);
@@ -110,7 +110,7 @@ static void fit_example(void) {
 }
 
 static void look_at_the_word(void) {
-    uint64_t model[ROW_WORDS * STATES];
+    uint64_t model[MODEL];
     uint64_t row;
     uint32_t before = _mm_getcsr() & ~FLAGS;
     uint32_t was, inside, raised;

@@ -15,14 +15,20 @@
 #define SLOTS 12
 #define MOST_CALLS 32
 
-#define TWO_TO_52 ((uint64_t)1 << 52)
-#define TWO_TO_53 ((uint64_t)1 << 53)
+/* The most pairs or skips, the most in a cell, the greatest size of a total; the largest price, size and tick. */
+#define COUNTER_LIMIT ((uint64_t)1 << 52)
+#define CELL_LIMIT ((uint64_t)1 << 53)
+#define TOTAL_LIMIT ((int64_t)1 << 53)
 #define DOMAIN_LIMIT 1000000000u
 
 /* The words of a configuration, of a record and of a quote. */
 enum { TICK, BUCKETS, SPREAD_STATES, LEAST, GAP };
 enum { FLAG, LAST_TIME, LAST_BID, LAST_ASK, LAST_BID_SIZE, LAST_ASK_SIZE, PAIRS, SPREAD_SKIPS, GAP_SKIPS, LARGEST };
 enum { TIME, BID, ASK, BID_SIZE, ASK_SIZE };
+
+/* The words of an image's header beside those that micro_price.h names: where each table begins, the record, the length. */
+enum { STAY_OFFSET = 6, MOVED_OFFSET, TOTALS_OFFSET, IMAGE_RECORD, IMAGE_LENGTH = 19 };
+#define HEADER_WORDS (MICRO_PRICE_IMAGE_HEADER / 8)
 
 struct counts {
     uint64_t rec[MICRO_PRICE_RECORD_WORDS + 1];

@@ -19,7 +19,7 @@ void put_one_pair(struct counts *c) {
 }
 
 void break_counts(struct counts *c) {
-    c->rec[SPREAD_SKIPS] = TWO_TO_52 + 1;
+    c->rec[SPREAD_SKIPS] = COUNTER_LIMIT + 1;
     c->rec[GAP_SKIPS] = UINT64_MAX;
     c->rec[PAIRS] += 3;
     c->stay[0] = 1;
@@ -35,12 +35,12 @@ static void run_over_limits(void (*run)(void), struct counts *c) {
     run();
     c->rec[GAP_SKIPS] = 0;
     run();
-    c->move_half_ticks[0] = -(int64_t)TWO_TO_53 - 1;
+    c->move_half_ticks[0] = -TOTAL_LIMIT - 1;
     run();
-    c->move_half_ticks[0] = (int64_t)TWO_TO_53 + 1;
+    c->move_half_ticks[0] = TOTAL_LIMIT + 1;
     run();
     c->move_half_ticks[0] = 5;
-    c->rec[PAIRS] = TWO_TO_52 + 1;
+    c->rec[PAIRS] = COUNTER_LIMIT + 1;
     run();
     c->rec[PAIRS] = pairs;
 }
@@ -93,7 +93,7 @@ void put_word(uint8_t *image, size_t word, uint64_t value) {
 }
 
 void make_image(uint8_t *at, const uint64_t *config, const struct counts *c) {
-    const uint64_t cells = IMAGED_STATES * IMAGED_STATES;
+    const uint64_t cells = MICRO_PRICE_CELLS(IMAGED_STATES);
     size_t i;
     put_word(at, MICRO_PRICE_IMAGE_STATES, IMAGED_STATES);
     put_word(at, MICRO_PRICE_IMAGE_BUCKETS, config[BUCKETS]);
@@ -101,18 +101,18 @@ void make_image(uint8_t *at, const uint64_t *config, const struct counts *c) {
     put_word(at, MICRO_PRICE_IMAGE_TICK, config[TICK]);
     put_word(at, MICRO_PRICE_IMAGE_MIN_STATE_OBSERVATIONS, config[LEAST]);
     put_word(at, MICRO_PRICE_IMAGE_MAX_QUOTE_GAP_MS, config[GAP]);
-    put_word(at, 6, 160);
-    put_word(at, 7, 160 + 8 * cells);
-    put_word(at, 8, 160 + 16 * cells);
+    put_word(at, STAY_OFFSET, MICRO_PRICE_IMAGE_HEADER);
+    put_word(at, MOVED_OFFSET, MICRO_PRICE_IMAGE_HEADER + 8 * cells);
+    put_word(at, TOTALS_OFFSET, MICRO_PRICE_IMAGE_HEADER + 16 * cells);
     for (i = 0; i < MICRO_PRICE_RECORD_WORDS; i++)
-        put_word(at, 9 + i, c->rec[i]);
-    put_word(at, 19, 160 + 16 * cells + 8 * IMAGED_STATES);
+        put_word(at, IMAGE_RECORD + i, c->rec[i]);
+    put_word(at, IMAGE_LENGTH, SLOT);
     for (i = 0; i < cells; i++) {
-        put_word(at, 20 + i, c->stay[i]);
-        put_word(at, 20 + cells + i, c->moved[i]);
+        put_word(at, HEADER_WORDS + i, c->stay[i]);
+        put_word(at, HEADER_WORDS + cells + i, c->moved[i]);
     }
     for (i = 0; i < IMAGED_STATES; i++)
-        put_word(at, 20 + 2 * cells + i, (uint64_t)c->move_half_ticks[i]);
+        put_word(at, HEADER_WORDS + 2 * cells + i, (uint64_t)c->move_half_ticks[i]);
 }
 
 /* ---- validate and new */
@@ -184,12 +184,12 @@ static void lend_full_counts(void) {
     size_t i;
     put_one_pair(c);
     break_last_quote(c);
-    c->rec[PAIRS] = c->rec[SPREAD_SKIPS] = c->rec[GAP_SKIPS] = TWO_TO_52;
+    c->rec[PAIRS] = c->rec[SPREAD_SKIPS] = c->rec[GAP_SKIPS] = COUNTER_LIMIT;
     for (i = 0; i < MICRO_PRICE_CELLS(IMAGED_STATES); i++)
-        c->stay[i] = c->moved[i] = TWO_TO_53;
-    c->move_half_ticks[0] = -(int64_t)TWO_TO_53 - 1;
+        c->stay[i] = c->moved[i] = CELL_LIMIT;
+    c->move_half_ticks[0] = -TOTAL_LIMIT - 1;
     c->move_half_ticks[1] = 0;
-    c->move_half_ticks[2] = (int64_t)TWO_TO_53 + 1;
+    c->move_half_ticks[2] = TOTAL_LIMIT + 1;
     lend_quote(1000, DOMAIN_LIMIT + 2, DOMAIN_LIMIT + 2, DOMAIN_LIMIT + 1, DOMAIN_LIMIT + 1);
 }
 
@@ -225,14 +225,14 @@ static void run_over_limits_of_quotes(void) {
     observe();
     lend_quote(3000, 100, 105, 9, 1);
     observe();
-    c->rec[PAIRS] = c->rec[SPREAD_SKIPS] = c->rec[GAP_SKIPS] = TWO_TO_52 - 1;
+    c->rec[PAIRS] = c->rec[SPREAD_SKIPS] = c->rec[GAP_SKIPS] = COUNTER_LIMIT - 1;
     observe();
-    c->stay[CELL(1, 2)] = TWO_TO_53 - 1;
+    c->stay[CELL(1, 2)] = CELL_LIMIT - 1;
     observe();
-    c->stay[CELL(1, 0)] = TWO_TO_53 - 1;
-    c->move_half_ticks[1] = (int64_t)TWO_TO_53 + 1;
+    c->stay[CELL(1, 0)] = CELL_LIMIT - 1;
+    c->move_half_ticks[1] = TOTAL_LIMIT + 1;
     observe();
-    c->move_half_ticks[1] = -(int64_t)TWO_TO_53 - 1;
+    c->move_half_ticks[1] = -TOTAL_LIMIT - 1;
     observe();
     c->move_half_ticks[1] = 0;
 }
@@ -241,9 +241,9 @@ static void run_over_limits_of_quotes(void) {
 static void run_pairs(void) {
     struct counts *c = &lent.counts;
     observe();
-    expect(left.counts.stay[CELL(1, 2)] == TWO_TO_53 && left.counts.stay[CELL(1, 0)] == TWO_TO_53
-               && left.counts.rec[PAIRS] == TWO_TO_52,
-           "a pair may bring its cells to 2^53 and the counter to 2^52");
+    expect(left.counts.stay[CELL(1, 2)] == CELL_LIMIT && left.counts.stay[CELL(1, 0)] == CELL_LIMIT
+               && left.counts.rec[PAIRS] == COUNTER_LIMIT,
+           "a pair may bring its cells and the counter to their limits");
     c->rec[LAST_BID_SIZE] = 9;
     c->rec[LAST_ASK_SIZE] = 1;
     c->moved[CELL(2, 5)] = c->moved[CELL(0, 3)] = 7;
@@ -260,10 +260,11 @@ static void run_other_quotes(void) {
     static const uint64_t first[MICRO_PRICE_RECORD_WORDS] = {1, 3000, 100, 115, 9, 1};
     lend_quote(3001, 100, 105, 9, 1);
     observe();
-    expect(left.counts.rec[GAP_SKIPS] == TWO_TO_52 && left.counts.rec[PAIRS] == TWO_TO_52 - 1, "1,001 ms are a gap skip");
+    expect(left.counts.rec[GAP_SKIPS] == COUNTER_LIMIT && left.counts.rec[PAIRS] == COUNTER_LIMIT - 1, "1,001 ms are a gap skip");
     lend_quote(3000, 100, 115, 9, 1);
     observe();
-    expect(left.counts.rec[SPREAD_SKIPS] == TWO_TO_52 && left.counts.rec[PAIRS] == TWO_TO_52 - 1, "three ticks are a spread skip");
+    expect(left.counts.rec[SPREAD_SKIPS] == COUNTER_LIMIT && left.counts.rec[PAIRS] == COUNTER_LIMIT - 1,
+           "three ticks are a spread skip");
     memset(lent.counts.rec, 0, sizeof first);
     observe();
     expect(memcmp(left.counts.rec, first, sizeof first) == 0, "a first quote is the last quote and no more");
@@ -324,14 +325,14 @@ void chain_of_save(void) {
 /* What the image holds that is lent to restore, and which words of its header are replaced. */
 static struct counts saved;
 static uint64_t saved_config[MICRO_PRICE_CONFIG_WORDS];
-static int is_replaced[20];
+static int is_replaced[HEADER_WORDS];
 
 static void restore(void) {
     struct counts *c = &lent.counts;
     uint64_t answer;
     size_t word;
     make_image(lent.image, saved_config, &saved);
-    for (word = 0; word < 20; word++)
+    for (word = 0; word < HEADER_WORDS; word++)
         if (is_replaced[word])
             put_word(lent.image, word, 2 + word);
     before_call();
@@ -341,7 +342,8 @@ static void restore(void) {
 }
 
 /* N, the three offsets, the flag of a last quote, the length. */
-static const size_t laid_out[] = {0, 6, 7, 8, 9, 19};
+static const size_t laid_out[] = {MICRO_PRICE_IMAGE_STATES, STAY_OFFSET,  MOVED_OFFSET,
+                                  TOTALS_OFFSET,            IMAGE_RECORD, IMAGE_LENGTH};
 
 /* 12 by all these words, by each alone, by a quote after a flag of 0, and by the number of bytes. */
 static void run_bad_layouts(void) {
@@ -378,13 +380,13 @@ void chain_of_restore(void) {
     lend_anything();
     wrong_lengths(IMAGED_STATES);
     break_image();
-    lent.image_len = 159;
+    lent.image_len = MICRO_PRICE_IMAGE_HEADER - 1;
     run_wrong_config(restore);
     run_wrong_rec(restore);
     restore();
     lent.image_len = 0;
     restore();
-    lent.image_len = 160;
+    lent.image_len = MICRO_PRICE_IMAGE_HEADER;
     for (i = 0; i < BAD_CONFIGS; i++) {
         memcpy(saved_config, bad_configs[i], sizeof saved_config);
         restore();
@@ -396,7 +398,7 @@ void chain_of_restore(void) {
     run_broken_last_quote(restore, &saved);
     run_broken_counts(restore, &saved, 3, IMAGED_STATES);
     restore();
-    expect(memcmp(left.config, small_config, sizeof small_config) == 0 && memcmp(left.counts.rec, saved.rec, 80) == 0
+    expect(memcmp(left.config, small_config, sizeof small_config) == 0 && memcmp(left.counts.rec, saved.rec, 8 * lent.rec_len) == 0
                && memcmp(left.counts.stay, saved.stay, 8 * lent.stay_len) == 0
                && memcmp(left.counts.moved, saved.moved, 8 * lent.moved_len) == 0
                && memcmp(left.counts.move_half_ticks, saved.move_half_ticks, 8 * lent.move_half_ticks_len) == 0,

@@ -58,7 +58,7 @@ static void add_unrepresentable(void) {
     add_pairs(lent.counts.stay, 4, 5, 1);
     add_pairs(lent.counts.stay, 5, 4, 10000000000u);
     add_pairs(lent.counts.moved, 5, MIDDLE, 1);
-    set_total(4, (int64_t)TWO_TO_53);
+    set_total(4, TOTAL_LIMIT);
 }
 
 /* State 13, of spread 2, moves by 3 half ticks: its adjustment is one tick and a half. */
@@ -124,7 +124,8 @@ void chain_of_fit_counts(void) {
     run_broken_counts(fit_counts, &lent.counts, BUCKETS_OF_FIT, STATES);
     run_failed_fits();
     run_fit();
-    expect(left.model[ROW_WORDS * 13 + ROW_STATUS] == MICRO_PRICE_STATUS_CALIBRATED, "an adjustment of half the spread is inside the quotes");
+    expect(left.model[MICRO_PRICE_ROW_WORDS * 13 + ROW_STATUS] == MICRO_PRICE_STATUS_CALIBRATED,
+           "an adjustment of half the spread is inside the quotes");
 }
 
 /* ---- the model check: n = 3, s = 2, tick 1, document 01's table */
@@ -178,8 +179,8 @@ static void run_bad_rows(void) {
     for (i = 0; i < COUNT_OF(bad_rows); i++) {
         const struct bad_row *b = &bad_rows[i];
         memcpy(lent.model, example_model, sizeof example_model);
-        lent.model[ROW_WORDS * b->other_row + b->other_word] = b->other_value;
-        lent.model[ROW_WORDS * b->row + b->word] = b->value;
+        lent.model[MICRO_PRICE_ROW_WORDS * b->other_row + b->other_word] = b->other_value;
+        lent.model[MICRO_PRICE_ROW_WORDS * b->row + b->word] = b->value;
         check_model();
         expect(left.row == b->row, "13 of the model check names the first bad row");
     }
@@ -242,7 +243,7 @@ static void run_bad_quotes(void) {
 /* 13 by the row of the quote's state alone: a status over 3; Calibrated and not finite, or over half the spread, 2.5. */
 static void run_bad_states(void) {
     static const uint64_t adjustments[] = {NOT_A_NUMBER, INFINITE, SIGN | INFINITE, 0x4004000000000001u, 0xc004000000000001u};
-    uint64_t *row = lent.model + ROW_WORDS * 2;
+    uint64_t *row = lent.model + MICRO_PRICE_ROW_WORDS * 2;
     size_t i;
     lend_quote(7, 100, 105, 9, 1);
     signal_of();
@@ -265,7 +266,7 @@ static void run_signals(void) {
                && left.signal[3] == MICRO_PRICE_SOURCE_MICRO_PRICE,
            "half the spread is sent as an adjustment");
     for (status = 1; status <= 3; status++) {
-        lent.model[ROW_WORDS * 2 + ROW_STATUS] = status;
+        lent.model[MICRO_PRICE_ROW_WORDS * 2 + ROW_STATUS] = status;
         signal_of();
         expect(left.signal[2] == 0 && left.signal[3] == status, "the source of a fallback is its status");
     }

@@ -3,26 +3,33 @@
 
 Holds the functions that TREE/include/micro_price.h declares against the symbols that ARCHIVE exports, and their parameters
 against crates/abi_*, where they are written, and against bindings/rust/src/sys.rs, where Rust declares them. Holds the
-header's numbers against the crates that have them. Prints each mismatch and ends with status 1 if there is one.
+header's numbers against the crates that have them, and against the constants of sys.rs. Prints each mismatch and ends with
+status 1 if there is one.
 """
 import re
 import subprocess
 import sys
 from pathlib import Path
 
-# Numbers of the header that refusals.c is written with: a wrong one makes a run answer something else.
+# Numbers of the header that refusals.c is written with: a wrong one makes a run answer something else. They need no crate's constant.
 RUN = {"CONFIG_WORDS", "RECORD_WORDS", "QUOTE_WORDS", "ROW_WORDS", "SIGNAL_WORDS", "CALL_WORDS", "CALL_QUOTE", "CALL_SAVE",
        "CALL_RESTORE", "IMAGE_STATES", "IMAGE_BUCKETS", "IMAGE_SPREAD_STATES", "IMAGE_TICK", "IMAGE_MIN_STATE_OBSERVATIONS",
        "IMAGE_MAX_QUOTE_GAP_MS"}
 
-# Constants of crates: the header's name, the file and the constant.
+# Numbers of the header that bindings/rust/src/sys.rs has by the same names.
+RUST = RUN | {"IMAGE_HEADER", "OTHER_CONFIGURATION"}
+
+# Constants of crates: the header's name, the file, the constant, and how many of the header's units it counts: a form is words of 8 bytes.
 CONSTANTS = [
-    ("BAD_ENCODING", "crates/abi_encoding/src/lib.rt", "BAD_ENCODING"),
-    ("OTHER_CONFIGURATION", "crates/history_replay/src/inner.rt", "OTHER_CONFIGURATION"),
-    ("MIN_STATE_OBSERVATIONS", "crates/config/src/lib.rt", "MIN_STATE_OBSERVATIONS"),
-    ("MAX_QUOTE_GAP_MS", "crates/config/src/lib.rt", "MAX_QUOTE_GAP_MS"),
-    ("MAX_STATES", "crates/config/src/inner.rt", "MAX_STATES"),
-    ("IMAGE_HEADER", "crates/image_layout/src/lib.rt", "LENGTH"),
+    ("BAD_ENCODING", "crates/abi_encoding/src/lib.rt", "BAD_ENCODING", 1),
+    ("OTHER_CONFIGURATION", "crates/history_replay/src/inner.rt", "OTHER_CONFIGURATION", 1),
+    ("MIN_STATE_OBSERVATIONS", "crates/config/src/lib.rt", "MIN_STATE_OBSERVATIONS", 1),
+    ("MAX_QUOTE_GAP_MS", "crates/config/src/lib.rt", "MAX_QUOTE_GAP_MS", 1),
+    ("MAX_STATES", "crates/config/src/inner.rt", "MAX_STATES", 1),
+    ("CONFIG_WORDS", "crates/config/src/inner.rt", "CONFIG_WORDS", 1),
+    ("RECORD_WORDS", "crates/abi_encoding/src/lib.rt", "RECORD_WORDS", 1),
+    ("SIGNAL_WORDS", "crates/abi_models/src/lib.rt", "SIGNAL_WORDS", 1),
+    ("IMAGE_HEADER", "crates/image_layout/src/lib.rt", "FORM", 8),
 ]
 
 C_TYPES = {"u8": "uint8_t", "u64": "uint64_t", "i64": "int64_t", "f64": "double", "usize": "size_t"}
@@ -96,20 +103,40 @@ def cases(source, enum):
     return {re.sub(r"(?<!^)([A-Z])", r"_\1", name).upper(): int(number) for name, number in found}
 
 
-def constant(source, name):
-    return int(re.search(rf"const {name}: u64 = ([\d_]+);", source)[1].replace("_", ""))
+def constants(source):
+    """{name: number} of the constants that a Rattle or Rust text gives as digits, or by the name of one that stands above."""
+    found = {}
+    for name, value in re.findall(r"\bconst (\w+): (?:u64|usize) = (\w+);", without_comments(source)):
+        if value in found:
+            found[name] = found[value]
+        elif value[0].isdigit():
+            found[name] = int(value.replace("_", ""))
+    return found
+
+
+def constant(tree, file, name):
+    found = constants((tree / file).read_text())
+    if name not in found:
+        sys.exit(f"header: {file} has no constant {name}")
+    return found[name]
 
 
 def numbers(tree):
     """The header's numbers as the crates have them. A fallback's source is its status."""
     found = cases((tree / "crates/refusals/src/lib.rt").read_text(), "Refusal")
-    found |= {name: constant((tree / file).read_text(), inner) for name, file, inner in CONSTANTS}
+    found |= {name: each * constant(tree, file, inner) for name, file, inner, each in CONSTANTS}
     statuses = cases((tree / "crates/model/src/inner.rt").read_text(), "StateStatus")
     sources = cases((tree / "crates/model_signals/src/inner.rt").read_text(), "SignalSource")
     sources |= {name: number for name, number in statuses.items() if name != "CALIBRATED"}
     found |= {"STATUS_" + name: number for name, number in statuses.items()}
     found |= {"SOURCE_" + name: number for name, number in sources.items()}
     return found
+
+
+def number_differences(names, header, other, where):
+    for name in sorted(names):
+        if header.get(name) != other.get(name):
+            yield f"MICRO_PRICE_{name} is {header.get(name)} in the header and {other.get(name)} in {where}"
 
 
 def differences(header, other, where):
@@ -144,10 +171,9 @@ def main():
     symbols = exported(archive)
     found += [f"{name} is declared and the archive does not export it" for name in sorted(header.keys() - symbols)]
     found += [f"the archive exports {name}, which is not declared" for name in sorted(symbols - header.keys())]
-    ours, theirs = numbers_in(text), numbers(tree)
-    for name in sorted((ours.keys() | theirs.keys()) - RUN):
-        if ours.get(name) != theirs.get(name):
-            found.append(f"MICRO_PRICE_{name} is {ours.get(name)} in the header and {theirs.get(name)} in the crates")
+    ours, theirs, in_rust = numbers_in(text), numbers(tree), constants(rust)
+    found += number_differences(ours.keys() - RUN | theirs.keys(), ours, theirs, "the crates")
+    found += number_differences(RUST | in_rust.keys(), ours, in_rust, "bindings/rust/src/sys.rs")
     for line in found:
         print(f"header: {line}", file=sys.stderr)
     if found or not header:

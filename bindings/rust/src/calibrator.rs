@@ -7,8 +7,8 @@ use std::fmt;
 /// Counts of the transitions seen so far: the record and the tables.
 #[derive(Debug, Clone, PartialEq, Eq)]
 pub struct Calibrator {
-    pub(crate) config: [u64; 5],
-    pub(crate) rec: [u64; 10],
+    pub(crate) config: [u64; sys::CONFIG_WORDS],
+    pub(crate) rec: [u64; sys::RECORD_WORDS],
     pub(crate) stay: Vec<u64>,
     pub(crate) moved: Vec<u64>,
     pub(crate) move_half_ticks: Vec<i64>,
@@ -62,7 +62,7 @@ impl Calibrator {
         let states = config.states();
         Self {
             config: config.words(),
-            rec: [0; 10],
+            rec: [0; sys::RECORD_WORDS],
             stay: vec![0; states * states],
             moved: vec![0; states * states],
             move_half_ticks: vec![0; states],
@@ -117,7 +117,7 @@ impl Calibrator {
 
     /// The length of its image in bytes.
     pub fn image_length(&self) -> usize {
-        160 + 16 * self.stay.len() + 8 * self.move_half_ticks.len()
+        sys::image_length(self.move_half_ticks.len())
     }
 
     /// Its image.
@@ -169,8 +169,8 @@ impl Calibrator {
     /// The model of its counts. Refusals: 16, 17, 18, 19.
     pub fn fit(&self) -> Result<Model, Refusal> {
         let states = self.move_half_ticks.len();
-        let mut scratch = vec![0.0; states * (2 * states + 10)];
-        let mut model = vec![0; 7 * states];
+        let mut scratch = vec![0.0; sys::scratch_length(states)];
+        let mut model = vec![0; sys::model_length(states)];
         // SAFETY: as in `new`.
         let answer = unsafe {
             sys::micro_price_fit_counts(
@@ -270,17 +270,24 @@ fn config_in(image: &[u8]) -> Config {
         let bytes = image.get(8 * place..).and_then(|rest| rest.first_chunk());
         bytes.map_or(0, |bytes| u64::from_le_bytes(*bytes))
     };
-    Config::from_words([word(3), word(1), word(2), word(4), word(5)])
+    Config::new(
+        word(sys::IMAGE_TICK),
+        word(sys::IMAGE_BUCKETS),
+        word(sys::IMAGE_SPREAD_STATES),
+    )
+    .with_min_state_observations(word(sys::IMAGE_MIN_STATE_OBSERVATIONS))
+    .with_max_quote_gap_ms(word(sys::IMAGE_MAX_QUOTE_GAP_MS))
 }
 
-fn call_words(call: &Call) -> [u64; 6] {
+fn call_words(call: &Call) -> [u64; sys::CALL_WORDS] {
+    let bytes = |kind, start: usize, length: usize| [kind, start as u64, length as u64, 0, 0, 0];
     match *call {
         Call::Quote(quote) => {
             let [time, bid, ask, bid_size, ask_size] = quote.words();
-            [0, time, bid, ask, bid_size, ask_size]
+            [sys::CALL_QUOTE, time, bid, ask, bid_size, ask_size]
         }
-        Call::Save { start, length } => [1, start as u64, length as u64, 0, 0, 0],
-        Call::Restore { start, length } => [2, start as u64, length as u64, 0, 0, 0],
+        Call::Save { start, length } => bytes(sys::CALL_SAVE, start, length),
+        Call::Restore { start, length } => bytes(sys::CALL_RESTORE, start, length),
     }
 }
 

@@ -60,8 +60,8 @@ impl Config {
         }
     }
 
-    /// Its five words.
-    pub(crate) fn words(&self) -> [u64; 5] {
+    /// Its words, as they are lent.
+    pub(crate) fn words(&self) -> [u64; sys::CONFIG_WORDS] {
         [
             self.tick_size,
             self.imbalance_buckets,
@@ -71,7 +71,7 @@ impl Config {
         ]
     }
 
-    pub(crate) fn from_words(words: [u64; 5]) -> Self {
+    pub(crate) fn from_words(words: [u64; sys::CONFIG_WORDS]) -> Self {
         let [tick, buckets, spreads, observations, gap] = words;
         Self::new(tick, buckets, spreads)
             .with_min_state_observations(observations)
@@ -90,8 +90,8 @@ pub struct Quote {
 }
 
 impl Quote {
-    /// Its five words, as they stand in a recording.
-    pub fn words(&self) -> [u64; 5] {
+    /// Its words, as they stand in a recording.
+    pub fn words(&self) -> [u64; sys::QUOTE_WORDS] {
         [
             self.timestamp_ms,
             self.bid,
@@ -101,8 +101,8 @@ impl Quote {
         ]
     }
 
-    /// The quote of five words.
-    pub fn from_words(words: [u64; 5]) -> Self {
+    /// The quote of a recording's words.
+    pub fn from_words(words: [u64; sys::QUOTE_WORDS]) -> Self {
         let [timestamp_ms, bid, ask, bid_size, ask_size] = words;
         Self {
             timestamp_ms,

@@ -4,7 +4,7 @@ use crate::model::Model;
 use crate::refusal::Refusal;
 use crate::sys;
 
-/// The quotes of a recording with start ≤ time < end, as a part of the caller's own words; five words are a quote.
+/// The quotes of a recording with start ≤ time < end, as a part of the caller's own words; `sys::QUOTE_WORDS` are a quote.
 /// Refusals: 7, 14, 15.
 pub fn quotes_in(recording: &[u64], start: u64, end: u64) -> Result<&[u64], Refusal> {
     let (mut first, mut past) = (0, 0);
@@ -19,7 +19,8 @@ pub fn quotes_in(recording: &[u64], start: u64, end: u64) -> Result<&[u64], Refu
             &mut past,
         )
     };
-    Refusal::check(answer).map(|()| &recording[5 * first as usize..5 * past as usize])
+    let place = |quote: u64| sys::QUOTE_WORDS * quote as usize;
+    Refusal::check(answer).map(|()| &recording[place(first)..place(past)])
 }
 
 /// What an evening's calibration answers.
@@ -43,8 +44,8 @@ pub fn calibrate(
 ) -> Result<Evening, Refusal> {
     let mut calibrator = Calibrator::zeros(&config);
     let states = calibrator.move_half_ticks.len();
-    let mut scratch = vec![0.0; states * (2 * states + 10)];
-    let mut model = vec![0; 7 * states];
+    let mut scratch = vec![0.0; sys::scratch_length(states)];
+    let mut model = vec![0; sys::model_length(states)];
     let mut invalid = 0;
     // SAFETY: each pointer and its length are those of one array, vector or slice, and no two are the same.
     let answer = unsafe {

@@ -47,7 +47,7 @@ pub struct Estimate {
     pub status: Option<Status>,
 }
 
-/// Fitted adjustments: a row of seven words for each state.
+/// Fitted adjustments: a row of words for each state.
 #[derive(Debug, Clone, PartialEq, Eq)]
 pub struct Model {
     config: Config,
@@ -86,14 +86,14 @@ impl Model {
         self.config
     }
 
-    /// Its seven words a state.
+    /// Its words, `sys::ROW_WORDS` a state.
     pub fn words(&self) -> &[u64] {
         &self.words
     }
 
     /// The row of a state.
     pub fn estimate(&self, state: usize) -> Option<Estimate> {
-        let row = self.words.chunks_exact(7).nth(state)?;
+        let row = self.words.chunks_exact(sys::ROW_WORDS).nth(state)?;
         let [
             bucket,
             spread,
@@ -102,7 +102,7 @@ impl Model {
             adjustment,
             share,
             status,
-        ] = *row.first_chunk()?;
+        ] = *row.first_chunk::<{ sys::ROW_WORDS }>()?;
         Some(Estimate {
             imbalance_bucket: bucket,
             spread_ticks: spread,
@@ -136,7 +136,7 @@ impl Model {
     /// The signal of a quote. Refusals: 1, 7, 2, 3, 4, 13 with the quote's state.
     pub fn signal(&self, quote: &Quote) -> Result<Signal, Refusal> {
         let config = self.config.words();
-        let mut out = [0; 4];
+        let mut out = [0; sys::SIGNAL_WORDS];
         let mut row = 0;
         // SAFETY: as in `check`.
         let answer = unsafe {

@@ -1,6 +1,10 @@
 //! Each operation against results worked out by hand from document 01. "Its configuration" is n = 3, s = 2, tick 1, least
 //! observations 1, gap 1,000: six states, 0 to 2 for a spread of one tick, 3 to 5 for two.
 
+use micro_price::sys::{
+    IMAGE_BUCKETS, IMAGE_HEADER, IMAGE_SPREAD_STATES, IMAGE_STATES, IMAGE_TICK, QUOTE_WORDS,
+    RECORD_WORDS, ROW_WORDS, image_length,
+};
 use micro_price::{
     Calibrator, Call, Config, Counters, Estimate, Model, OutsideRoom, Quote, Refusal, Replayed,
     Signal, Source, Status, calibrate, quotes_in,
@@ -9,16 +13,27 @@ use micro_price::{
 const CONFIG: Config = Config::new(1, 3, 2)
     .with_min_state_observations(1)
     .with_max_quote_gap_ms(1000);
+/// The largest price, size and tick.
+const DOMAIN: u64 = 1_000_000_000;
+/// Most pairs or skips.
+const COUNTER_LIMIT: u64 = 1 << 52;
+/// Greatest size of a move total.
+const TOTAL_LIMIT: i64 = 1 << 53;
+// Words of an image beside N and the configuration's: where stay begins, the record's first, the length, the tables' first.
+const STAY_OFFSET: usize = 6;
+const RECORD: usize = 9;
+const LENGTH: usize = 19;
+const TABLES: usize = IMAGE_HEADER / 8;
 const HALF: u64 = 0x3fe0_0000_0000_0000;
 const MINUS_HALF: u64 = 0xbfe0_0000_0000_0000;
 const ONE: u64 = 0x3ff0_0000_0000_0000;
 
-fn quote(words: [u64; 5]) -> Quote {
+fn quote(words: [u64; QUOTE_WORDS]) -> Quote {
     Quote::from_words(words)
 }
 
 /// A new calibrator after these quotes.
-fn after(config: Config, quotes: &[[u64; 5]]) -> Calibrator {
+fn after(config: Config, quotes: &[[u64; QUOTE_WORDS]]) -> Calibrator {
     let mut calibrator = Calibrator::new(config).unwrap();
     for words in quotes {
         calibrator.observe(&quote(*words)).unwrap();
@@ -36,9 +51,16 @@ fn table(states: usize, cells: &[(usize, usize, u64)]) -> Vec<u64> {
 }
 
 /// An image, word by word as document 01 lays it out.
-fn image(config: Config, rec: [u64; 10], stay: &[u64], moved: &[u64], totals: &[i64]) -> Vec<u8> {
+fn image(
+    config: Config,
+    rec: [u64; RECORD_WORDS],
+    stay: &[u64],
+    moved: &[u64],
+    totals: &[i64],
+) -> Vec<u8> {
     let states = totals.len() as u64;
     let cells = states * states;
+    let stay_at = IMAGE_HEADER as u64;
     let mut words = vec![
         states,
         config.imbalance_buckets,
@@ -46,12 +68,12 @@ fn image(config: Config, rec: [u64; 10], stay: &[u64], moved: &[u64], totals: &[
         config.tick_size,
         config.min_state_observations,
         config.max_quote_gap_ms,
-        160,
-        160 + 8 * cells,
-        160 + 16 * cells,
+        stay_at,
+        stay_at + 8 * cells,
+        stay_at + 16 * cells,
     ];
     words.extend(rec);
-    words.push(160 + 16 * cells + 8 * states);
+    words.push(image_length(totals.len()) as u64);
     words.extend(stay);
     words.extend(moved);
     words.extend(totals.iter().map(|total| *total as u64));
@@ -59,7 +81,7 @@ fn image(config: Config, rec: [u64; 10], stay: &[u64], moved: &[u64], totals: &[
 }
 
 /// Eight quotes: four pairs, two spread skips, a gap skip.
-const DAY: [[u64; 5]; 8] = [
+const DAY: [[u64; QUOTE_WORDS]; 8] = [
     [0, 100, 101, 9, 1],
     [1, 100, 102, 5, 5],
     [2, 100, 102, 1, 2],
@@ -77,7 +99,7 @@ fn day_tables() -> (Vec<u64>, Vec<u64>, [i64; 6]) {
     (stay, moved, [-1, 0, 1, -2, 0, 2])
 }
 
-const DAY_RECORD: [u64; 10] = [1, 2006, 99, 100, 1, 1, 4, 2, 1, 2];
+const DAY_RECORD: [u64; RECORD_WORDS] = [1, 2006, 99, 100, 1, 1, 4, 2, 1, 2];
 
 #[test]
 fn a_configuration_has_defaults_and_is_judged() {
@@ -88,7 +110,7 @@ fn a_configuration_has_defaults_and_is_judged() {
     );
     let valid = [
         Config::new(1, 3, 1),
-        Config::new(1_000_000_000, 3, 85),
+        Config::new(DOMAIN, 3, 85),
         Config::new(1, 255, 1),
         CONFIG,
     ];
@@ -97,7 +119,7 @@ fn a_configuration_has_defaults_and_is_judged() {
     }
     let invalid = [
         Config::new(0, 3, 2),
-        Config::new(1_000_000_001, 3, 2),
+        Config::new(DOMAIN + 1, 3, 2),
         Config::new(1, 1, 2),
         Config::new(1, 4, 2),
         Config::new(1, 3, 0),
@@ -191,7 +213,7 @@ fn quotes_are_counted_with_their_mirrors() {
 /// P13 and the other refusals of a quote, the first of several, and that a refused quote changes nothing.
 #[test]
 fn a_refused_quote_changes_nothing() {
-    let over = 1_000_000_001;
+    let over = DOMAIN + 1;
     let config = CONFIG.with_max_quote_gap_ms(5);
     let by_five = Config {
         tick_size: 5,
@@ -222,10 +244,10 @@ fn a_refused_quote_changes_nothing() {
     assert_eq!(calibrator.observe(&quote([11, 100, 105, 5, 5])), Ok(()));
 }
 
-/// 6: pairs at 2^52 take no further one.
+/// 6: pairs at their limit take no further one.
 #[test]
 fn counts_have_limits() {
-    let limit = 1 << 52;
+    let limit = COUNTER_LIMIT;
     let rec = [1, 0, 100, 101, 9, 1, limit, 0, 0, 0];
     let stay = table(6, &[(2, 2, limit), (0, 0, limit)]);
     let full = image(CONFIG, rec, &stay, &table(6, &[]), &[0; 6]);
@@ -243,10 +265,11 @@ fn an_image_is_laid_out_as_document_01_says() {
     let calibrator = after(CONFIG, &DAY);
     let (stay, moved, totals) = day_tables();
     let saved = calibrator.save().unwrap();
-    assert_eq!(saved.len(), 160 + 16 * 36 + 8 * 6);
+    assert_eq!(saved.len(), image_length(6));
     assert_eq!(saved, image(CONFIG, DAY_RECORD, &stay, &moved, &totals));
     let empty = Calibrator::new(CONFIG).unwrap().save().unwrap();
-    assert_eq!(empty, image(CONFIG, [0; 10], &[0; 36], &[0; 36], &[0; 6]));
+    let zeros = [0; RECORD_WORDS];
+    assert_eq!(empty, image(CONFIG, zeros, &[0; 36], &[0; 36], &[0; 6]));
 }
 
 #[test]
@@ -274,7 +297,7 @@ fn a_broken_image_is_refused() {
     assert!(Calibrator::restore(&good).is_ok());
     let refused = |image: &[u8]| Calibrator::restore(image).unwrap_err().number();
     assert_eq!(refused(&[]), 12);
-    assert_eq!(refused(&good[..159]), 12);
+    assert_eq!(refused(&good[..IMAGE_HEADER - 1]), 12);
     assert_eq!(refused(&good[..good.len() - 1]), 12);
     assert_eq!(refused(&[&good[..], &[0]].concat()), 12);
     let with_word = |place: usize, word: u64| {
@@ -282,31 +305,49 @@ fn a_broken_image_is_refused() {
         changed[8 * place..8 * place + 8].copy_from_slice(&word.to_le_bytes());
         refused(&changed)
     };
-    assert_eq!(with_word(0, 7), 12, "N");
-    assert_eq!(with_word(1, 4), 1, "n");
-    assert_eq!(with_word(1, u64::MAX), 1, "n");
-    assert_eq!(with_word(2, 3), 12, "s, with the lengths of another");
-    assert_eq!(with_word(3, 0), 1, "tick");
-    assert_eq!(with_word(6, 168), 12, "offset of stay");
-    assert_eq!(with_word(9, 2), 12, "whether there is a last quote");
-    assert_eq!(with_word(9, 0), 12, "no last quote, its words not zero");
-    assert_eq!(with_word(12, 99), 8, "the last quote's ask is its bid");
+    assert_eq!(with_word(IMAGE_STATES, 7), 12, "N");
+    assert_eq!(with_word(IMAGE_BUCKETS, 4), 1, "n");
+    assert_eq!(with_word(IMAGE_BUCKETS, u64::MAX), 1, "n");
     assert_eq!(
-        with_word(3, 3),
+        with_word(IMAGE_SPREAD_STATES, 3),
+        12,
+        "s, with the lengths of another"
+    );
+    assert_eq!(with_word(IMAGE_TICK, 0), 1, "tick");
+    let other_offset = IMAGE_HEADER as u64 + 8;
+    assert_eq!(with_word(STAY_OFFSET, other_offset), 12, "offset of stay");
+    assert_eq!(with_word(RECORD, 2), 12, "whether there is a last quote");
+    assert_eq!(
+        with_word(RECORD, 0),
+        12,
+        "no last quote, its words not zero"
+    );
+    assert_eq!(
+        with_word(RECORD + 3, 99),
+        8,
+        "the last quote's ask is its bid"
+    );
+    assert_eq!(
+        with_word(IMAGE_TICK, 3),
         8,
         "the last quote's prices are off the tick"
     );
     assert_eq!(
-        with_word(17, (1 << 52) + 1),
+        with_word(RECORD + 8, COUNTER_LIMIT + 1),
         6,
         "gap skips over their limit"
     );
-    assert_eq!(with_word(19, 0), 12, "length");
-    let totals_at = 20 + 36 + 36;
-    assert_eq!(with_word(totals_at + 1, (1 << 53) + 1), 6, "a total");
+    assert_eq!(with_word(LENGTH, 0), 12, "length");
+    let totals_at = TABLES + 36 + 36;
+    let over = TOTAL_LIMIT.unsigned_abs() + 1;
+    assert_eq!(with_word(totals_at + 1, over), 6, "a total");
     assert_eq!(with_word(totals_at + 2, 2), 9, "a total without its mirror");
-    assert_eq!(with_word(20 + 5, 1), 10, "a cell without its mirror");
-    assert_eq!(with_word(20 + 7, 4), 11, "cells are not twice the pairs");
+    assert_eq!(with_word(TABLES + 5, 1), 10, "a cell without its mirror");
+    assert_eq!(
+        with_word(TABLES + 7, 4),
+        11,
+        "cells are not twice the pairs"
+    );
 }
 
 /// Document 01's example.
@@ -362,7 +403,7 @@ fn fits_that_fail_say_why() {
     assert_eq!(singular.fit(), Err(Refusal::SingularTransitions));
 
     let large = Config {
-        tick_size: 1_000_000_000,
+        tick_size: DOMAIN,
         imbalance_buckets: 5,
         ..CONFIG
     };
@@ -371,7 +412,7 @@ fn fits_that_fail_say_why() {
     let moved = table(10, &[(1, 2, 1), (3, 2, 1)]);
     let rec = [0, 0, 0, 0, 0, 0, 10_000_000_002, 0, 0, 0];
     let mut totals = [0; 10];
-    (totals[0], totals[4]) = (1 << 53, -(1 << 53));
+    (totals[0], totals[4]) = (TOTAL_LIMIT, -TOTAL_LIMIT);
     let unrepresentable = Calibrator::restore(&image(large, rec, &stay, &moved, &totals)).unwrap();
     assert_eq!(unrepresentable.fit(), Err(Refusal::Unrepresentable));
 }
@@ -405,7 +446,7 @@ fn signals_are_the_mid_plus_the_adjustment() {
         sent(9, 203, 0.0, Source::SpreadOutOfRange)
     );
     assert_eq!(
-        signal([9, 100, 101, 9, 1_000_000_001]),
+        signal([9, 100, 101, 9, DOMAIN + 1]),
         Err(Refusal::OverDomain)
     );
     assert_eq!(signal([9, 101, 101, 9, 1]), Err(Refusal::BadQuote));
@@ -426,7 +467,7 @@ fn a_bad_model_is_refused() {
     let heavy_bid = quote([9, 100, 101, 9, 1]);
     let with_word = |row: usize, word: usize, content: u64| {
         let mut words = example();
-        words[7 * row + word] = content;
+        words[ROW_WORDS * row + word] = content;
         let model = Model::from_words(CONFIG, words);
         (model.check(), model.signal(&heavy_bid))
     };
@@ -454,7 +495,7 @@ fn a_bad_model_is_refused() {
     let (_, sent) = with_word(2, 4, f64::NAN.to_bits());
     assert_eq!(sent, Err(Refusal::ModelRow(2)), "not a number");
 
-    let short = Model::from_words(CONFIG, example()[7..].to_vec());
+    let short = Model::from_words(CONFIG, example()[ROW_WORDS..].to_vec());
     assert_eq!(short.check(), Err(Refusal::SliceLength));
     assert_eq!(short.signal(&heavy_bid), Err(Refusal::SliceLength));
     let even = Model::from_words(Config::new(1, 2, 3), example());
@@ -473,8 +514,9 @@ fn the_window_is_a_part_of_the_recording() {
     .concat();
     assert_eq!(quotes_in(&recording, 0, 10), Ok(&recording[..]));
     let part = quotes_in(&recording, 1, 9).unwrap();
-    assert_eq!(part, &recording[5..15]);
-    assert_eq!(part.as_ptr(), recording[5..].as_ptr(), "the caller's own");
+    assert_eq!(part, &recording[QUOTE_WORDS..3 * QUOTE_WORDS]);
+    let second = recording[QUOTE_WORDS..].as_ptr();
+    assert_eq!(part.as_ptr(), second, "the caller's own");
     assert_eq!(quotes_in(&recording, 5, 5), Ok(&[][..]));
     assert_eq!(
         quotes_in(&recording, 8, 6),
@@ -483,7 +525,7 @@ fn the_window_is_a_part_of_the_recording() {
     );
     assert_eq!(quotes_in(&recording, 9, 5), Err(Refusal::WindowBackward));
     assert_eq!(quotes_in(&recording[1..], 0, 10), Err(Refusal::SliceLength));
-    let unsorted = [&recording[5..], &recording[..5]].concat();
+    let unsorted = [&recording[QUOTE_WORDS..], &recording[..QUOTE_WORDS]].concat();
     assert_eq!(quotes_in(&unsorted, 0, 10), Err(Refusal::RecordingUnsorted));
     assert_eq!(quotes_in(&[], 0, 10), Ok(&[][..]));
 }
@@ -494,7 +536,7 @@ fn an_evening_counts_its_window_and_fits() {
         [0, 100, 101, 9, 1],
         [1, 0, 102, 5, 5],
         [1, 100, 102, 5, 5],
-        [10, 1_000_000_001, 102, 5, 5],
+        [10, DOMAIN + 1, 102, 5, 5],
     ]
     .concat();
     let evening = calibrate(CONFIG, &recording, 0, 10).unwrap();
@@ -517,7 +559,7 @@ fn an_evening_counts_its_window_and_fits() {
             .number()
     };
     let even = Config::new(1, 4, 2);
-    let unsorted = [&recording[5..], &recording[..5]].concat();
+    let unsorted = [&recording[QUOTE_WORDS..], &recording[..QUOTE_WORDS]].concat();
     assert_eq!(refused(even, &recording[1..], 0, 10), 7);
     assert_eq!(refused(even, &unsorted, 10, 0), 14);
     assert_eq!(refused(even, &recording, 10, 0), 15);
@@ -533,7 +575,7 @@ fn a_journal_is_replayed() {
     let restore = Call::Restore { start: 8, length };
     let other = image(
         CONFIG.with_max_quote_gap_ms(999),
-        [0; 10],
+        [0; RECORD_WORDS],
         &[0; 36],
         &[0; 36],
         &[0; 6],

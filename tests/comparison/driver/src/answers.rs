@@ -4,9 +4,15 @@ use market_maker_rs::analytics::micro_price::MicroPriceCalibrator;
 use rust_decimal::Decimal;
 use rust_decimal::prelude::ToPrimitive;
 
-use crate::paper::{Config, Fit, Memory, Quote, Record, Refusal, bits};
+use crate::paper::{
+    CONFIG_WORDS, Config, Fit, Memory, QUOTE_WORDS, Quote, RECORD_WORDS, ROW_WORDS, Record,
+    Refusal, bits,
+};
 use crate::plain;
 use crate::rust::{self, Checked, Unrestored};
+
+/// Words of a model's row in a line: each of its three floats is two.
+const SPLIT_ROW: usize = ROW_WORDS + 3;
 
 /// The words of a line that are not read yet.
 struct Words(std::vec::IntoIter<u64>);
@@ -32,11 +38,11 @@ impl Words {
     }
 
     fn config(&mut self) -> Option<Config> {
-        Some(Config::of_words(&self.some::<5>()?))
+        Some(Config::of_words(&self.some::<CONFIG_WORDS>()?))
     }
 
     fn quotes(&mut self) -> Option<Vec<Quote>> {
-        let quotes = self.groups::<5>()?;
+        let quotes = self.groups::<QUOTE_WORDS>()?;
         Some(quotes.iter().map(|words| Quote::of_words(words)).collect())
     }
 
@@ -62,9 +68,9 @@ impl Words {
 
     /// A model table; each float is two words.
     fn model(&mut self) -> Option<Vec<u64>> {
-        let rows = self.groups::<10>()?;
+        let rows = self.groups::<SPLIT_ROW>()?;
         let float = |high: u64, low: u64| high << 32 | low;
-        let row = |w: &[u64; 10]| {
+        let row = |w: &[u64; SPLIT_ROW]| -> [u64; ROW_WORDS] {
             let floats = [float(w[3], w[4]), float(w[5], w[6]), float(w[7], w[8])];
             [w[0], w[1], w[2], floats[0], floats[1], floats[2], w[9]]
         };
@@ -155,7 +161,7 @@ fn restored(memory: &Memory) -> Option<Result<MicroPriceCalibrator, u64>> {
 
 fn restore(words: &mut Words) -> Option<Vec<u64>> {
     let config = words.config()?;
-    let record = Record::of_words(&words.some::<10>()?);
+    let record = Record::of_words(&words.some::<RECORD_WORDS>()?);
     let memory = words.tables(config, record)?;
     let quotes = words.quotes()?;
     match restored(&memory)? {

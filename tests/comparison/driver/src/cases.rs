@@ -14,7 +14,7 @@
 
 use std::str::{FromStr, SplitAsciiWhitespace};
 
-use crate::paper::{Config, Tables};
+use crate::paper::{Config, MAX_STATES, Tables};
 
 pub struct Case {
     pub name: String,
@@ -74,7 +74,7 @@ fn config(words: &mut SplitAsciiWhitespace) -> Result<Config, String> {
         gap: word(words)?,
     };
     match config.buckets.checked_mul(config.spreads) {
-        Some(1..=256) => Ok(config),
+        Some(1..=MAX_STATES) => Ok(config),
         _ => Err("no such number of states".to_string()),
     }
 }

@@ -2,6 +2,24 @@
 
 /// Largest price, size and tick of the domain.
 pub const DOMAIN: u64 = 1_000_000_000;
+/// Most states.
+pub const MAX_STATES: u64 = 256;
+
+/// Words by which a configuration is lent.
+pub const CONFIG_WORDS: usize = 5;
+/// Words of a record.
+pub const RECORD_WORDS: usize = 10;
+/// Words of a quote.
+pub const QUOTE_WORDS: usize = 5;
+/// Words of a row of the model table.
+pub const ROW_WORDS: usize = 7;
+/// Words of a signal.
+pub const SIGNAL_WORDS: usize = 4;
+/// Words of a call in a list that is replayed.
+pub const CALL_WORDS: usize = 6;
+
+/// Where a record's counters begin: before them are 1 and the last quote, or zeros.
+pub const COUNTERS: usize = 1 + QUOTE_WORDS;
 
 /// A refusal, by its number.
 #[derive(Debug, Clone, Copy, PartialEq, Eq)]
@@ -22,8 +40,8 @@ impl Config {
         usize::try_from(self.buckets * self.spreads).expect("number of states")
     }
 
-    /// The five words by which a configuration is lent.
-    pub fn words(&self) -> [u64; 5] {
+    /// The words by which a configuration is lent.
+    pub fn words(&self) -> [u64; CONFIG_WORDS] {
         [self.tick, self.buckets, self.spreads, self.least, self.gap]
     }
 
@@ -55,7 +73,7 @@ pub struct Quote {
 
 impl Quote {
     /// Time, bid, ask, bid size, ask size.
-    pub fn words(&self) -> [u64; 5] {
+    pub fn words(&self) -> [u64; QUOTE_WORDS] {
         [self.time, self.bid, self.ask, self.bid_size, self.ask_size]
     }
 
@@ -110,24 +128,24 @@ pub struct Record {
 }
 
 impl Record {
-    /// The ten words of a record, in an image and where it is lent: 1 and the last quote or six zeros, then the counters.
-    pub fn words(&self) -> [u64; 10] {
-        let mut words = [0; 10];
+    /// The words of a record, in an image and where it is lent: 1 and the last quote or zeros, then the counters.
+    pub fn words(&self) -> [u64; RECORD_WORDS] {
+        let mut words = [0; RECORD_WORDS];
         if let Some(last) = &self.last {
             words[0] = 1;
-            words[1..6].copy_from_slice(&last.words());
+            words[1..COUNTERS].copy_from_slice(&last.words());
         }
-        words[6..].copy_from_slice(&[self.pairs, self.spread, self.gap, self.largest]);
+        words[COUNTERS..].copy_from_slice(&[self.pairs, self.spread, self.gap, self.largest]);
         words
     }
 
     pub fn of_words(words: &[u64]) -> Self {
         Self {
-            last: (words[0] == 1).then(|| Quote::of_words(&words[1..6])),
-            pairs: words[6],
-            spread: words[7],
-            gap: words[8],
-            largest: words[9],
+            last: (words[0] == 1).then(|| Quote::of_words(&words[1..COUNTERS])),
+            pairs: words[COUNTERS],
+            spread: words[COUNTERS + 1],
+            gap: words[COUNTERS + 2],
+            largest: words[COUNTERS + 3],
         }
     }
 }

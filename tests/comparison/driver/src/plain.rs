@@ -4,7 +4,10 @@
 //! Rust cannot be given (tables that no check has passed, floats that are no decimals, words over 32 bits). Where the Rust can
 //! be asked, it is asked too, and must answer as is computed here.
 
-use crate::paper::{Config, DOMAIN, Memory, Quote, Record};
+use crate::paper::{
+    CONFIG_WORDS, Config, DOMAIN, MAX_STATES, Memory, Quote, RECORD_WORDS, ROW_WORDS, Record,
+    SIGNAL_WORDS,
+};
 
 /// Most pairs or skips.
 pub const MOST_PAIRS: u64 = 1 << 52;
@@ -12,8 +15,20 @@ pub const MOST_PAIRS: u64 = 1 << 52;
 pub const MOST_IN_CELL: u64 = 1 << 53;
 /// Greatest size of a move total.
 pub const MOST_TOTAL: u64 = 1 << 53;
-/// Bytes of an image's header.
-pub const HEADER: usize = 160;
+/// Words of an image's header.
+pub const HEADER_WORDS: usize = 20;
+/// Its bytes.
+pub const HEADER: usize = 8 * HEADER_WORDS;
+/// The header's word that is N.
+pub const STATES_AT: usize = 0;
+/// Its words of the configuration, in the order in which a configuration is lent.
+pub const CONFIG_AT: [usize; CONFIG_WORDS] = [3, 1, 2, 4, 5];
+/// Its words that say where stay, moved and the totals begin.
+pub const OFFSETS_AT: [usize; 3] = [6, 7, 8];
+/// Its words of the record, in the order in which a record is lent.
+pub const RECORD_AT: [usize; RECORD_WORDS] = [9, 10, 11, 12, 13, 14, 15, 16, 17, 18];
+/// Its word that is the image's length.
+pub const LENGTH_AT: usize = 19;
 
 // ---- configurations and quotes
 
@@ -22,7 +37,7 @@ pub fn valid(config: &Config) -> bool {
         && config.buckets >= 3
         && config.buckets % 2 == 1
         && config.spreads >= 1
-        && u128::from(config.buckets) * u128::from(config.spreads) <= 256
+        && u128::from(config.buckets) * u128::from(config.spreads) <= u128::from(MAX_STATES)
         && config.least >= 1
         && config.gap >= 1
 }
@@ -236,26 +251,35 @@ pub fn memory_refusal(memory: &Memory) -> u64 {
 
 // ---- the image
 
+/// Bytes of an image.
 pub fn image_length(states: usize) -> usize {
     HEADER + 16 * states * states + 8 * states
 }
 
-fn header(config: &Config, record: &Record) -> [u64; 20] {
-    let states = config.buckets * config.spreads;
+/// The words of an image's header.
+pub fn header(config: &Config, record: &Record) -> [u64; HEADER_WORDS] {
+    let states = config.states();
     let cells = 8 * states * states;
-    let mut words = [0; 20];
-    words[..6].copy_from_slice(&[
-        states,
-        config.buckets,
-        config.spreads,
-        config.tick,
-        config.least,
-        config.gap,
-    ]);
-    words[6..9].copy_from_slice(&[160, 160 + cells, 160 + 2 * cells]);
-    words[9..19].copy_from_slice(&record.words());
-    words[19] = 160 + 2 * cells + 8 * states;
+    let offsets = [HEADER, HEADER + cells, HEADER + 2 * cells].map(|offset| offset as u64);
+    let mut words = [0; HEADER_WORDS];
+    words[STATES_AT] = states as u64;
+    words[LENGTH_AT] = image_length(states) as u64;
+    let places = CONFIG_AT.into_iter().chain(OFFSETS_AT).chain(RECORD_AT);
+    let held = config.words().into_iter().chain(offsets);
+    for (at, word) in places.zip(held.chain(record.words())) {
+        words[at] = word;
+    }
     words
+}
+
+/// The configuration in a header's words.
+pub fn config_in(words: &[u64]) -> Config {
+    Config::of_words(&CONFIG_AT.map(|at| words[at]))
+}
+
+/// The record in a header's words.
+pub fn record_in(words: &[u64]) -> Record {
+    Record::of_words(&RECORD_AT.map(|at| words[at]))
 }
 
 /// The image of a calibrator.
@@ -270,7 +294,7 @@ pub fn image(memory: &Memory) -> Vec<u8> {
         .collect()
 }
 
-/// What an image tells, or the first of 12 (under 160 bytes), 1 and 12 (any word or length unlike that of an image).
+/// What an image tells, or the first of 12 (less than a header), 1 and 12 (any word or length unlike that of an image).
 pub fn read_image(image: &[u8]) -> Result<Memory, u64> {
     if image.len() < HEADER {
         return Err(12);
@@ -279,22 +303,17 @@ pub fn read_image(image: &[u8]) -> Result<Memory, u64> {
         .chunks_exact(8)
         .map(|bytes| u64::from_le_bytes(bytes.try_into().expect("eight bytes")))
         .collect();
-    let config = Config {
-        tick: words[3],
-        buckets: words[1],
-        spreads: words[2],
-        least: words[4],
-        gap: words[5],
-    };
+    let config = config_in(&words);
     if !valid(&config) {
         return Err(1);
     }
-    let record = Record::of_words(&words[9..19]);
-    if words[..20] != header(&config, &record) || image.len() != image_length(config.states()) {
+    let record = record_in(&words);
+    let told = words[..HEADER_WORDS] == header(&config, &record);
+    if !told || image.len() != image_length(config.states()) {
         return Err(12);
     }
     let cells = config.states() * config.states();
-    let (stay, rest) = words[20..].split_at(cells);
+    let (stay, rest) = words[HEADER_WORDS..].split_at(cells);
     let (moved, totals) = rest.split_at(cells);
     Ok(Memory {
         config,
@@ -307,6 +326,16 @@ pub fn read_image(image: &[u8]) -> Result<Memory, u64> {
 
 // ---- models and signals
 
+/// Floats of scratch that a fit asks for.
+pub fn scratch_length(states: usize) -> usize {
+    states * (2 * states + 10)
+}
+
+/// Words of a model table.
+pub fn model_length(states: usize) -> usize {
+    ROW_WORDS * states
+}
+
 /// Twice half the spread of a state: tick × spread.
 fn whole_spread(config: &Config, state: usize) -> f64 {
     (config.tick * (state as u64 / config.buckets + 1)) as f64
@@ -318,7 +347,7 @@ pub fn over_half_spread(config: &Config, state: usize, adjustment: f64) -> bool 
 }
 
 fn row(model: &[u64], state: usize) -> &[u64] {
-    &model[7 * state..7 * state + 7]
+    &model[ROW_WORDS * state..ROW_WORDS * (state + 1)]
 }
 
 fn floats(row: &[u64]) -> [f64; 3] {
@@ -357,8 +386,12 @@ pub fn bad_row(config: &Config, model: &[u64]) -> Option<u64> {
         .map(|state| state as u64)
 }
 
-/// A signal's four words, or its refusal, at 13 with the quote's state. The configuration is valid and the table has its length.
-pub fn signal(config: &Config, model: &[u64], quote: &Quote) -> Result<[u64; 4], (u64, u64)> {
+/// A signal's words, or its refusal, at 13 with the quote's state. The configuration is valid and the table has its length.
+pub fn signal(
+    config: &Config,
+    model: &[u64],
+    quote: &Quote,
+) -> Result<[u64; SIGNAL_WORDS], (u64, u64)> {
     let refused = quote_refusal(config, quote);
     if refused != 0 {
         return Err((refused, 0));

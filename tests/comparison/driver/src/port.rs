@@ -1,8 +1,29 @@
 //! The port, asked through its C ABI (include/micro_price.h). Nothing here looks at what is answered; `faults` can change it.
 
 use crate::faults::hits;
-use crate::paper::{Memory, Quote};
+use crate::paper::{
+    CALL_WORDS, CONFIG_WORDS, COUNTERS, Config, Memory, QUOTE_WORDS, Quote, RECORD_WORDS,
+    ROW_WORDS, SIGNAL_WORDS,
+};
+use crate::plain::{self, CONFIG_AT, HEADER, STATES_AT};
 use micro_price::sys;
+
+// Document 01's numbers, by which the memory here is made, are those of the header.
+const _: () = {
+    assert!(CONFIG_WORDS == sys::CONFIG_WORDS && RECORD_WORDS == sys::RECORD_WORDS);
+    assert!(QUOTE_WORDS == sys::QUOTE_WORDS && ROW_WORDS == sys::ROW_WORDS);
+    assert!(SIGNAL_WORDS == sys::SIGNAL_WORDS && CALL_WORDS == sys::CALL_WORDS);
+    assert!(HEADER == sys::IMAGE_HEADER && STATES_AT == sys::IMAGE_STATES);
+    let [tick, buckets, spreads, least, gap] = CONFIG_AT;
+    assert!(tick == sys::IMAGE_TICK && buckets == sys::IMAGE_BUCKETS);
+    assert!(spreads == sys::IMAGE_SPREAD_STATES);
+    assert!(least == sys::IMAGE_MIN_STATE_OBSERVATIONS && gap == sys::IMAGE_MAX_QUOTE_GAP_MS);
+};
+
+/// Words of a record that `faults` changes.
+const PAIRS: usize = COUNTERS;
+const GAP_SKIPS: usize = COUNTERS + 2;
+const LARGEST: usize = COUNTERS + 3;
 
 /// The answer to words or lengths that are no configuration or record.
 pub const BAD_ENCODING: u64 = 100;
@@ -92,23 +113,23 @@ impl Lent {
     fn observe_faults(&mut self, quote: &Quote, before: &[u64], answer: u64) -> u64 {
         let hit = |name: &str| hits(name, &quote.words());
         if answer == 0 {
-            if hit("count_plus_one") && self.rec[6] > before[6] {
+            if hit("count_plus_one") && self.rec[PAIRS] > before[PAIRS] {
                 self.stay[0] += 1;
             }
-            if hit("last_kept") && self.rec[8] > before[8] {
-                self.rec[..6].copy_from_slice(&before[..6]);
+            if hit("last_kept") && self.rec[GAP_SKIPS] > before[GAP_SKIPS] {
+                self.rec[..COUNTERS].copy_from_slice(&before[..COUNTERS]);
             }
             if hit("gap_at_limit")
-                && self.rec[6] > before[6]
-                && quote.time - before[1] == self.config[4]
+                && self.rec[PAIRS] > before[PAIRS]
+                && quote.time - before[1] == Config::of_words(&self.config).gap
             {
-                self.rec[6] -= 1;
-                self.rec[8] += 1;
+                self.rec[PAIRS] -= 1;
+                self.rec[GAP_SKIPS] += 1;
             }
             if hit("largest_lost") {
-                self.rec[9] = before[9];
+                self.rec[LARGEST] = before[LARGEST];
             }
-            if hit("total_sign") && self.rec[6] > before[6] {
+            if hit("total_sign") && self.rec[PAIRS] > before[PAIRS] {
                 self.totals[0] = -self.totals[0];
             }
         }
@@ -142,7 +163,7 @@ impl Lent {
             )
         };
         if answer == 0 && hits("image_byte", &self.rec) {
-            out[170] ^= 1;
+            out[HEADER + 10] ^= 1;
         }
         if answer != 0 && !out.is_empty() && hits("save_refusal_writes", &self.rec) {
             out[0] ^= 1;
@@ -170,11 +191,11 @@ impl Lent {
         };
         match answer {
             0 if hits("restored_gap", &self.rec) => {
-                self.rec[8] = 0;
+                self.rec[GAP_SKIPS] = 0;
                 0
             }
             11 if hits("restore_unchecked", &[image.len() as u64]) => 0,
-            10 if hits("restore_order", &[u64::from(image[160])]) => 9,
+            10 if hits("restore_order", &[u64::from(image[HEADER])]) => 9,
             _ => answer,
         }
     }
@@ -243,7 +264,7 @@ impl Lent {
                 *invalid -= 1;
             }
             if hits("evening_last", recording) {
-                self.rec[..6].fill(0);
+                self.rec[..COUNTERS].fill(0);
             }
         }
         answer
@@ -292,8 +313,8 @@ impl Room {
     /// The room for so many states, holding neither zeros nor a model.
     pub fn used(states: usize) -> Self {
         Self {
-            scratch: vec![7.25; states * (2 * states + 10)],
-            model: vec![0x5555; 7 * states],
+            scratch: vec![7.25; plain::scratch_length(states)],
+            model: vec![0x5555; plain::model_length(states)],
         }
     }
 }
@@ -301,7 +322,7 @@ impl Room {
 fn fit_faults(stay: &[u64], scratch: &mut [f64], model: &mut [u64], answer: u64) -> u64 {
     let hit = |name: &str| hits(name, stay);
     if answer == 0 {
-        for row in model.chunks_mut(7) {
+        for row in model.chunks_mut(ROW_WORDS) {
             if hit("last_bit") && row[4] != 0 {
                 row[4] ^= 1;
             }

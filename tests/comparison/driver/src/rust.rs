@@ -14,7 +14,7 @@ use rust_decimal::prelude::{FromPrimitive, ToPrimitive};
 use serde::de::DeserializeOwned;
 use serde::{Deserialize, Serialize};
 
-use crate::paper::{Config, DOMAIN, Fit, Memory, Quote, Record, Refusal, Row, Tables};
+use crate::paper::{Config, DOMAIN, Fit, Memory, Quote, ROW_WORDS, Record, Refusal, Row, Tables};
 
 /// The Rust's configuration, or refusal 1. The largest tick is document 01's.
 pub fn config(config: &Config) -> Result<MicroPriceConfig, Refusal> {
@@ -494,7 +494,7 @@ pub fn check_model(config: &Config, model: &[u64]) -> Option<Checked> {
     let raw = RawModel {
         config: unjudged_config(config),
         states: model
-            .chunks(7)
+            .chunks(ROW_WORDS)
             .map(raw_state)
             .collect::<Option<Vec<RawState>>>()?,
     };

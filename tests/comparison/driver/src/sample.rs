@@ -6,7 +6,7 @@ use std::collections::BTreeMap;
 use crate::answers::{answer, entries};
 use crate::inputs::quotes::{self, SMALL};
 use crate::inputs::{models, tables};
-use crate::paper::{Config, DOMAIN, Memory, Quote, Tables, join};
+use crate::paper::{Config, DOMAIN, Memory, Quote, ROW_WORDS, Tables, join};
 use crate::plain;
 use crate::random::{Random, enter};
 
@@ -119,8 +119,8 @@ fn model_words(model: &[u64]) -> Vec<u64> {
         let floats = [halves(row[3]), halves(row[4]), halves(row[5])].concat();
         [&row[..3], &floats, &row[6..]].concat()
     };
-    std::iter::once((model.len() / 7) as u64)
-        .chain(model.chunks(7).flat_map(row))
+    std::iter::once((model.len() / ROW_WORDS) as u64)
+        .chain(model.chunks(ROW_WORDS).flat_map(row))
         .collect()
 }
 

@@ -4,7 +4,7 @@
 use crate::compare::sides::{Sides, same_memory};
 use crate::compare::{Case, Compared, Difference, Run, fits, images, smallest};
 use crate::inputs::quotes::{self as inputs, LARGE, MIDDLE, SMALL};
-use crate::paper::{Config, Memory, Quote, join};
+use crate::paper::{CALL_WORDS, Config, Memory, Quote, join};
 use crate::plain;
 use crate::port::{self, Lent};
 use crate::random::Random;
@@ -19,7 +19,7 @@ enum Call {
 }
 
 impl Call {
-    fn words(&self) -> [u64; 6] {
+    fn words(&self) -> [u64; CALL_WORDS] {
         let bytes = |kind, at: usize, length: usize| [kind, at as u64, length as u64, 7, 8, 9];
         match self {
             Call::Quote(quote) => {

@@ -3,8 +3,10 @@
 use crate::compare::sides::same_memory;
 use crate::compare::{Case, Compared, Run, fits, smallest};
 use crate::inputs::quotes::{self as inputs, LARGE, SMALL};
-use crate::paper::{Config, Memory, Quote, Refusal, join};
-use crate::plain;
+use crate::paper::{
+    COUNTERS, Config, DOMAIN, Memory, QUOTE_WORDS, Quote, RECORD_WORDS, ROW_WORDS, Refusal, join,
+};
+use crate::plain::{self, MOST_TOTAL};
 use crate::port::{Lent, Room};
 use crate::random::Random;
 use crate::rust::{self, Evening};
@@ -122,13 +124,13 @@ fn used_memory(given: &Given) -> Lent {
     };
     let mut lent = Lent {
         config: given.config.words().to_vec(),
-        rec: vec![1, 2, 3, 4, 5, 6, 7, 8, 9, 10],
+        rec: (1..=RECORD_WORDS as u64).collect(),
         stay: vec![11; states * states],
         moved: vec![12; states * states],
         totals: vec![-13; states],
     };
     if given.quotes.len().is_multiple_of(2) {
-        lent.rec[..6].fill(0);
+        lent.rec[..COUNTERS].fill(0);
     }
     lent
 }
@@ -166,7 +168,7 @@ fn compare_evening(seen: &mut Seen, given: &Given) -> Compared {
             case.equal("invalid quotes", invalid, evening.invalid)?;
             compare_counts(&case, given, &lent, &evening)?;
             let wanted = fits::wanted(&case, seen, &given.config, &evening.fitted)?;
-            let rows = wanted.model.iter().flat_map(|model| model.chunks(7));
+            let rows = wanted.model.iter().flat_map(|m| m.chunks(ROW_WORDS));
             rows.for_each(|row| seen.status(Operation::Evening, row[6]));
             fits::same_fit(&case, &wanted, answer, &room)
         }
@@ -191,22 +193,22 @@ fn compare_counts(case: &Case, given: &Given, lent: &Lent, evening: &Evening) ->
         evening.hash,
     )?;
     let counters = [evening.pairs, evening.spread, evening.gap, evening.largest];
-    case.same("the Rust's counters", &lent.rec[6..], &counters)?;
+    case.same("the Rust's counters", &lent.rec[COUNTERS..], &counters)?;
     same_memory(case, lent, &rust::memory_of(&given.config, &calibrator))
 }
 
 // ---- refusal 6
 
 /// Each quote moves from one end of the domain to the other.
-fn end_to_end(number: u64) -> [u64; 5] {
+fn end_to_end(number: u64) -> [u64; QUOTE_WORDS] {
     if number.is_multiple_of(2) {
         [number / 2, 1, 2, 0, 9]
     } else {
-        [number / 2, 999_999_999, 1_000_000_000, 9, 0]
+        [number / 2, DOMAIN - 1, DOMAIN, 9, 0]
     }
 }
 
-/// An evening long enough for a move total to pass 2^53, which takes over four million quotes; and one a quote shorter. The
+/// An evening long enough for a move total to pass its limit, which takes over four million quotes; and one a quote shorter. The
 /// Rust has no such limit and is not asked.
 fn count_limit(seen: &mut Seen) -> Compared {
     let config = Config {
@@ -217,8 +219,8 @@ fn count_limit(seen: &mut Seen) -> Compared {
         gap: 1,
     };
     // Each pair, or its mirror, goes from the lower bucket to the upper one with this change.
-    let change: u64 = 2 * (999_999_999 - 1);
-    let most = (1u64 << 53) / change;
+    let change = 2 * (DOMAIN - 2);
+    let most = MOST_TOTAL / change;
     let mut full = Memory::new(config);
     full.totals = vec![
         (most * change).cast_signed(),

@@ -10,7 +10,7 @@ use rust_decimal::Decimal;
 use crate::compare::{Case, Compared, Difference, Run, models, signals, smallest};
 use crate::inputs::quotes::{self as inputs, LARGE, MIDDLE};
 use crate::inputs::tables;
-use crate::paper::{Config, Memory, Record, Refusal, Row, bits};
+use crate::paper::{Config, Memory, ROW_WORDS, Record, Refusal, Row, bits};
 use crate::plain;
 use crate::port::{Lent, Room};
 use crate::rust::{self, Fitted, Unrestored};
@@ -101,7 +101,7 @@ pub fn compare_fit(seen: &mut Seen, memory: &Memory) -> Compared {
     case.holds("the lent counts are as they were", lent == Lent::of(memory))?;
     let rust = fitted.ok().and_then(|fitted| fitted.model);
     if let (Some(model), Some(rust)) = (&wanted.model, &rust) {
-        let statuses = model.chunks(7).map(|row| row[6]);
+        let statuses = model.chunks(ROW_WORDS).map(|row| row[6]);
         statuses.for_each(|status| seen.status(Operation::Fit, status));
         models::compare_fitted(seen, &memory.config, model, rust)?;
         signals::compare_fitted(seen, &memory.config, model, rust)?;
@@ -112,7 +112,7 @@ pub fn compare_fit(seen: &mut Seen, memory: &Memory) -> Compared {
 /// The answer, the table and scratch are as wanted, in room that was `Room::used` before.
 pub fn same_fit(case: &Case, wanted: &Wanted, answer: u64, room: &Room) -> Compared {
     case.equal("answer", answer, wanted.answer)?;
-    let unused = Room::used(room.model.len() / 7);
+    let unused = Room::used(room.model.len() / ROW_WORDS);
     let model = wanted.model.as_ref().unwrap_or(&unused.model);
     case.same("model table", &room.model, model)?;
     let cleared = matches!(answer, 0 | 16..=19);
@@ -184,7 +184,7 @@ pub fn wanted(
         return Ok(only(19));
     }
     let model = fitted.model.as_ref().expect("a fitted model");
-    let mut words = Vec::with_capacity(7 * rows.len());
+    let mut words = Vec::with_capacity(plain::model_length(rows.len()));
     for (state, row) in rows.iter().enumerate() {
         let status = status_on_floats(case, seen, config, state, row, model)?;
         words.extend([row.bucket, row.spread, row.observations]);
@@ -194,7 +194,7 @@ pub fn wanted(
         let zeros = floats.iter().filter(|v| v.to_bits() == 1 << 63);
         zeros.for_each(|_| seen.rule(Rule::MinusZeroFitted));
     }
-    if words.chunks(7).any(|row| row[6] == 0) {
+    if words.chunks(ROW_WORDS).any(|row| row[6] == 0) {
         return Ok(Wanted {
             answer: 0,
             model: Some(words),

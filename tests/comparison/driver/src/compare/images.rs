@@ -6,8 +6,8 @@
 use crate::compare::sides::{Sides, same_memory};
 use crate::compare::{Case, Compared, Difference, Run, fits};
 use crate::inputs::quotes::{self as inputs, LARGE, MIDDLE, SMALL};
-use crate::paper::{Config, Memory, Quote, Record, Refusal, join};
-use crate::plain::{self, HEADER};
+use crate::paper::{CONFIG_WORDS, COUNTERS, Memory, QUOTE_WORDS, Quote, Record, Refusal, join};
+use crate::plain::{self, HEADER, HEADER_WORDS, MOST_PAIRS, MOST_TOTAL, RECORD_AT};
 use crate::port::Lent;
 use crate::random::{self, Random};
 use crate::rust::{self, Unrestored};
@@ -88,15 +88,15 @@ fn any_memory(random: &mut Random) -> Memory {
     if image.len() == plain::image_length(memory.totals.len()) {
         let words = words_of(&image);
         let cells = memory.stay.len();
-        if words[9] == 1 || words[9..15] == [0; 6] {
-            memory.record = Record::of_words(&words[9..19]);
+        let record = RECORD_AT.map(|at| words[at]);
+        if record[0] == 1 || record[..COUNTERS] == [0; COUNTERS] {
+            memory.record = Record::of_words(&record);
         }
-        memory.stay.copy_from_slice(&words[20..20 + cells]);
-        memory
-            .moved
-            .copy_from_slice(&words[20 + cells..20 + 2 * cells]);
-        let totals = words[20 + 2 * cells..].iter().map(|v| v.cast_signed());
-        memory.totals = totals.collect();
+        let (stay, rest) = words[HEADER_WORDS..].split_at(cells);
+        let (moved, totals) = rest.split_at(cells);
+        memory.stay.copy_from_slice(stay);
+        memory.moved.copy_from_slice(moved);
+        memory.totals = totals.iter().map(|v| v.cast_signed()).collect();
     }
     memory
 }
@@ -120,8 +120,8 @@ pub fn damage(random: &mut Random, image: &mut Vec<u8>) {
             let at = random.index(image.len());
             image[at] ^= 1 + random.below(255) as u8;
         }
-        1 => change_word(random, image, 0, 20),
-        2 => change_word(random, image, 20, words),
+        1 => change_word(random, image, 0, HEADER_WORDS),
+        2 => change_word(random, image, HEADER_WORDS, words),
         3 => {
             let (a, b) = (random.index(words), random.index(words));
             let words = words_of(image);
@@ -162,11 +162,11 @@ fn mirrored_change(random: &mut Random, image: &mut [u8], with_pairs: bool) {
     };
     let (config, states) = (memory.config, memory.totals.len());
     let (x, y) = (random.index(states), random.index(states));
-    let table = 20 + states * states * random.index(2);
+    let table = HEADER_WORDS + states * states * random.index(2);
     let (cell, mirror) = (x * states + y, config.mirror(x) * states + config.mirror(y));
     let words = words_of(image);
     let more = if random.one_in(4) {
-        1 << 51
+        MOST_PAIRS / 2
     } else {
         1 + random.below(3)
     };
@@ -183,7 +183,8 @@ fn mirrored_change(random: &mut Random, image: &mut [u8], with_pairs: bool) {
         words[table + cell].wrapping_add(more),
     );
     if with_pairs {
-        put(image, 15, words[15].wrapping_add(pairs));
+        let at = RECORD_AT[COUNTERS];
+        put(image, at, words[at].wrapping_add(pairs));
     }
 }
 
@@ -197,9 +198,9 @@ fn mirrored_totals(random: &mut Random, image: &mut [u8]) {
     let first = image.len() / 8 - states;
     let size = random.choose(&[
         1,
-        (1 << 53) - 1,
-        1 << 53,
-        (1 << 53) + 1,
+        MOST_TOTAL - 1,
+        MOST_TOTAL,
+        MOST_TOTAL + 1,
         1 << 60,
         1u64 << 63,
     ]);
@@ -216,13 +217,13 @@ fn last_quote(random: &mut Random, image: &mut [u8]) {
     let mut quote = inputs::quote(random, &memory.config, last.as_ref());
     if random.one_in(2) {
         let mut words = quote.words();
-        let at = random.index(5);
+        let at = random.index(QUOTE_WORDS);
         words[at] = inputs::special_word(random, words[at]);
         quote = Quote::of_words(&words);
     }
-    put(image, 9, 1);
+    put(image, RECORD_AT[0], 1);
     for (i, word) in quote.words().into_iter().enumerate() {
-        put(image, 10 + i, word);
+        put(image, RECORD_AT[1 + i], word);
     }
 }
 
@@ -235,15 +236,12 @@ fn huge_cells(random: &mut Random, image: &mut [u8]) {
     for _ in 0..1 + random.below(3) {
         let (x, y) = (random.index(states), random.index(states));
         let size = random.choose(&[1 << 62, 1 << 63, u64::MAX]);
-        put(image, 20 + x * states + y, size);
-        put(
-            image,
-            20 + config.mirror(x) * states + config.mirror(y),
-            size,
-        );
+        let mirrored = config.mirror(x) * states + config.mirror(y);
+        put(image, HEADER_WORDS + x * states + y, size);
+        put(image, HEADER_WORDS + mirrored, size);
     }
     if random.one_in(3) {
-        change_word(random, image, 20, image.len() / 8);
+        change_word(random, image, HEADER_WORDS, image.len() / 8);
     }
 }
 
@@ -279,16 +277,16 @@ pub fn judge(seen: &mut Seen, image: &[u8], states: usize) -> Result<Told, Diffe
     })
 }
 
-/// An image of at least 160 bytes is refused by 1 exactly if the Rust refuses its configuration or its tick is over the domain.
+/// An image with a whole header is refused by 1 exactly if the Rust refuses its configuration or its tick is over the domain.
 fn judge_config(image: &[u8], answer: u64) -> Compared {
     if image.len() < HEADER {
         return Ok(());
     }
     let words = words_of(image);
-    let config = Config::of_words(&[words[3], words[1], words[2], words[4], words[5]]);
+    let config = plain::config_in(&words);
     let case = Case {
         operation: Operation::Restore,
-        input: &|| format!("header {}", join(&words[..20])),
+        input: &|| format!("header {}", join(&words[..HEADER_WORDS])),
     };
     case.equal(
         "the Rust's judgement of the configuration",
@@ -330,7 +328,7 @@ fn compare_restore(run: &mut Run, image: &[u8], states: usize) -> Compared {
     let told = judge(run.seen, image, states)?;
     let random = &mut run.random;
     let mut lent = Lent {
-        config: vec![random.word(); 5],
+        config: vec![random.word(); CONFIG_WORDS],
         rec: inputs::any_record(random).words().to_vec(),
         stay: vec![random.word(); states * states],
         moved: vec![random.word(); states * states],

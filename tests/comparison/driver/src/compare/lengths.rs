@@ -1,4 +1,4 @@
-//! Wrong lengths (7), words that are no configuration or record (100), records of any ten words that are overwritten, and that
+//! Wrong lengths (7), words that are no configuration or record (100), records of any words that are overwritten, and that
 //! a refusal changes no lent memory. The Rust owns its memory and has none of this: everything here is judged by document 01
 //! and the ABI's own rules, in `plain` and below.
 
@@ -6,7 +6,10 @@ use crate::compare::sides::same_memory;
 use crate::compare::{Case, Compared, Run, fits, images};
 use crate::inputs::models::fine_model;
 use crate::inputs::quotes::{self as inputs, SMALL};
-use crate::paper::{Config, Memory, Quote, Record, join};
+use crate::paper::{
+    CALL_WORDS, CONFIG_WORDS, COUNTERS, Config, Memory, QUOTE_WORDS, Quote, RECORD_WORDS, Record,
+    SIGNAL_WORDS, join,
+};
 use crate::plain;
 use crate::port::{self, BAD_ENCODING, Lent, Room};
 use crate::random::Random;
@@ -45,18 +48,21 @@ fn other_length(random: &mut Random, length: usize) -> usize {
 fn bent(random: &mut Random) -> Lent {
     let mut lent = Lent::of(&images::some_memory(random, &SMALL[..5]));
     for _ in 0..random.below(3) {
-        let word = random.index(5);
+        let any = random.word() as usize;
         let length = |random: &mut Random, slice: usize| other_length(random, slice);
         match random.below(10) {
             0 => lent.config.resize(length(random, lent.config.len()), 3),
             1 => lent.rec.resize(length(random, lent.rec.len()), 0),
-            2 if lent.rec.len() == 10 => lent.rec[0] = inputs::special_word(random, 1),
-            3 if lent.rec.len() == 10 => lent.rec[1 + word] ^= 1 << random.below(64),
+            2 if lent.rec.len() == RECORD_WORDS => lent.rec[0] = inputs::special_word(random, 1),
+            3 if lent.rec.len() == RECORD_WORDS => {
+                lent.rec[1 + any % QUOTE_WORDS] ^= 1 << random.below(64);
+            }
             4 => lent.stay.resize(length(random, lent.stay.len()), 0),
             5 => lent.moved.resize(length(random, lent.moved.len()), 0),
             6 => lent.totals.resize(length(random, lent.totals.len()), 0),
-            7 if lent.config.len() == 5 => {
-                lent.config[word] = inputs::special_word(random, lent.config[word]);
+            7 if lent.config.len() == CONFIG_WORDS => {
+                let word = &mut lent.config[any % CONFIG_WORDS];
+                *word = inputs::special_word(random, *word);
             }
             8 => lent.rec.fill(UNCLEARED),
             _ => {}
@@ -65,19 +71,19 @@ fn bent(random: &mut Random) -> Lent {
     lent
 }
 
-/// Five and ten words, all that new, restore and the evening ask of a configuration's words and of the record.
-fn five_and_ten(lent: &Lent) -> bool {
-    lent.config.len() == 5 && lent.rec.len() == 10
+/// As many words as there should be: all that new, restore and the evening ask of a configuration's words and of the record.
+fn right_words(lent: &Lent) -> bool {
+    lent.config.len() == CONFIG_WORDS && lent.rec.len() == RECORD_WORDS
 }
 
-/// Ten words: 1 and a quote, or 0 and zeros; then any counters.
+/// A record's words: 1 and a quote, or 0 and zeros; then any counters.
 fn is_record(rec: &[u64]) -> bool {
-    rec.len() == 10 && (rec[0] == 1 || rec[..6] == [0; 6])
+    rec.len() == RECORD_WORDS && (rec[0] == 1 || rec[..COUNTERS] == [0; COUNTERS])
 }
 
 /// The memory that is lent, or 100, 1 or 7.
 fn told(lent: &Lent) -> Result<Memory, u64> {
-    if five_and_ten(lent) && !is_record(&lent.rec) {
+    if right_words(lent) && !is_record(&lent.rec) {
         return Err(BAD_ENCODING);
     }
     overwritten(lent)
@@ -85,7 +91,7 @@ fn told(lent: &Lent) -> Result<Memory, u64> {
 
 /// The same where the record is overwritten, whose words may be any.
 fn overwritten(lent: &Lent) -> Result<Memory, u64> {
-    if !five_and_ten(lent) {
+    if !right_words(lent) {
         return Err(BAD_ENCODING);
     }
     let config = Config::of_words(&lent.config);
@@ -215,7 +221,7 @@ fn restore(run: &mut Run, before: &Lent) -> Compared {
     if random.one_in(3) {
         images::damage(random, &mut image);
     }
-    let want = if !five_and_ten(before) {
+    let want = if !right_words(before) {
         Err(BAD_ENCODING)
     } else {
         plain::read_image(&image).and_then(|memory| {
@@ -249,7 +255,8 @@ fn some_room(random: &mut Random, states: usize) -> Room {
 }
 
 fn room_fits(room: &Room, states: usize) -> bool {
-    room.scratch.len() == states * (2 * states + 10) && room.model.len() == 7 * states
+    let lengths = [room.scratch.len(), room.model.len()];
+    lengths == [plain::scratch_length(states), plain::model_length(states)]
 }
 
 fn fit(run: &mut Run, lent: &Lent) -> Compared {
@@ -278,7 +285,7 @@ fn fit(run: &mut Run, lent: &Lent) -> Compared {
 /// Some bad quotes and a window, seldom with a word too many.
 fn some_recording(random: &mut Random) -> (Vec<u64>, (u64, u64)) {
     let times: Vec<u64> = (0..random.below(5)).map(|_| random.below(4)).collect();
-    let quote = |time: &u64| [*time, 0, 1, 1, 1];
+    let quote = |time: &u64| -> [u64; QUOTE_WORDS] { [*time, 0, 1, 1, 1] };
     let mut recording: Vec<u64> = times.iter().flat_map(quote).collect();
     if random.one_in(6) {
         recording.push(0);
@@ -288,13 +295,16 @@ fn some_recording(random: &mut Random) -> (Vec<u64>, (u64, u64)) {
 
 /// What an evening is refused by before it counts: 100, 7 of the recording, 14, 15, 1, 7 of the others; or 0.
 fn evening_refusal(lent: &Lent, recording: &[u64], window: (u64, u64), room: &Room) -> u64 {
-    if !five_and_ten(lent) {
+    if !right_words(lent) {
         return BAD_ENCODING;
     }
-    if !recording.len().is_multiple_of(5) {
+    if !recording.len().is_multiple_of(QUOTE_WORDS) {
         return 7;
     }
-    let times: Vec<u64> = recording.chunks(5).map(|quote| quote[0]).collect();
+    let times: Vec<u64> = recording
+        .chunks(QUOTE_WORDS)
+        .map(|quote| quote[0])
+        .collect();
     match plain::window(&times, window.0, window.1).and_then(|_| overwritten(lent)) {
         Ok(memory) if room_fits(room, memory.totals.len()) => 0,
         Ok(_) => 7,
@@ -317,10 +327,13 @@ fn evening(run: &mut Run, before: &Lent) -> Compared {
     if want == 0 {
         run.seen.answer(Operation::Evening, answer);
         let inside = |quote: &&[u64]| window.0 <= quote[0] && quote[0] < window.1;
-        let bad = recording.chunks(5).filter(inside).count() as u64;
+        let bad = recording.chunks(QUOTE_WORDS).filter(inside).count() as u64;
         unused.scratch.fill(0.0);
         case.equal("answer and invalid quotes", (answer, invalid), (16, bad))?;
-        case.holds("scratch is zero and the model table as it was", room == unused)?;
+        case.holds(
+            "scratch is zero and the model table as it was",
+            room == unused,
+        )?;
         return same_memory(&case, &lent, &Memory::new(Config::of_words(&before.config)));
     }
     let untouched = room == unused && invalid == UNWRITTEN;
@@ -352,7 +365,7 @@ fn some_lengths(random: &mut Random) -> Lengths {
         model: if plain::valid(&config) {
             fine_model(random, &config)
         } else {
-            vec![0; 21]
+            vec![0; plain::model_length(3)]
         },
     };
     if random.one_in(2) {
@@ -360,20 +373,20 @@ fn some_lengths(random: &mut Random) -> Lengths {
         lent.model.resize(length, 0);
     }
     if random.one_in(4) {
-        lent.config.resize(other_length(random, 5), 1);
+        lent.config.resize(other_length(random, CONFIG_WORDS), 1);
     }
     lent
 }
 
 /// 100, 1 or 7 of a model check, or 0.
 fn model_refusal(lent: &Lengths) -> u64 {
-    if lent.config.len() != 5 {
+    if lent.config.len() != CONFIG_WORDS {
         return BAD_ENCODING;
     }
     let config = Config::of_words(&lent.config);
     if !plain::valid(&config) {
         1
-    } else if lent.model.len() != 7 * config.states() {
+    } else if lent.model.len() != plain::model_length(config.states()) {
         7
     } else {
         0
@@ -402,13 +415,13 @@ fn signal(run: &mut Run) -> Compared {
     let lent = some_lengths(&mut run.random);
     let random = &mut run.random;
     let length = if random.one_in(4) {
-        other_length(random, 4)
+        other_length(random, SIGNAL_WORDS)
     } else {
-        4
+        SIGNAL_WORDS
     };
     let mut out = vec![UNWRITTEN; length];
     let want = match model_refusal(&lent) {
-        _ if length != 4 => BAD_ENCODING,
+        _ if length != SIGNAL_WORDS => BAD_ENCODING,
         // A quote over the domain, which comes after 1 and 7.
         0 => 2,
         number => number,
@@ -429,7 +442,7 @@ fn signal(run: &mut Run) -> Compared {
 fn window(run: &mut Run) -> Compared {
     let length = run.random.index(24);
     let recording: Vec<u64> = (0..length).map(|_| run.random.below(3)).collect();
-    if length.is_multiple_of(5) {
+    if length.is_multiple_of(QUOTE_WORDS) {
         return Ok(());
     }
     let (mut first, mut past) = (1, 2);
@@ -462,10 +475,10 @@ fn coded(random: &mut Random, quote: &Quote, long: usize) -> Coded {
     };
     if !coded.well {
         match random.below(4) {
-            0 => coded.calls.truncate(11),
+            0 => coded.calls.truncate(2 * CALL_WORDS - 1),
             1 => coded.answers.push(UNWRITTEN),
-            2 => coded.calls[6] = random.choose(&[3, 4, 1 << 32, u64::MAX]),
-            _ => coded.calls[7] = random.choose(&[4, u64::MAX, u64::MAX - 7, 1 << 63]),
+            2 => coded.calls[CALL_WORDS] = random.choose(&[3, 4, 1 << 32, u64::MAX]),
+            _ => coded.calls[CALL_WORDS + 1] = random.choose(&[4, u64::MAX, u64::MAX - 7, 1 << 63]),
         }
     }
     coded
@@ -483,7 +496,7 @@ fn replay(run: &mut Run, before: &Lent) -> Compared {
         operation: Operation::Replay,
         input: &|| format!("{}calls {}", print(before), join(&coded.calls)),
     };
-    if !coded.well || !five_and_ten(before) || !is_record(&before.rec) {
+    if !coded.well || !right_words(before) || !is_record(&before.rec) {
         let untouched = lent == *before
             && room.iter().all(|b| *b == 0x33)
             && coded.answers.iter().all(|a| *a == UNWRITTEN);

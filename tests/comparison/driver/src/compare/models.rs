@@ -6,7 +6,7 @@ use market_maker_rs::analytics::micro_price::MicroPriceModel;
 use crate::compare::{Case, Compared, Run};
 use crate::inputs::models::{damage, fine_model, rare_rows, special_values};
 use crate::inputs::quotes::{self, LARGE, SMALL};
-use crate::paper::{Config, Refusal, join};
+use crate::paper::{Config, ROW_WORDS, Refusal, join};
 use crate::plain;
 use crate::port;
 use crate::rust::{self, Checked};
@@ -45,7 +45,7 @@ fn every_word(run: &mut Run) -> Compared {
         let config = quotes::config(&mut run.random, &[(3, 2)]);
         let model = fine_model(&mut run.random, &config);
         for at in 0..model.len() {
-            let (state, word) = (at / 7, at % 7);
+            let (state, word) = (at / ROW_WORDS, at % ROW_WORDS);
             for value in special_values(&config, state, model[at]) {
                 let mut damaged = model.clone();
                 damaged[at] = value;
@@ -56,7 +56,7 @@ fn every_word(run: &mut Run) -> Compared {
                 } else {
                     value
                 };
-                damaged[7 * config.mirror(state) + word] = mirrored;
+                damaged[ROW_WORDS * config.mirror(state) + word] = mirrored;
                 compare_check(run.seen, &config, &damaged)?;
             }
         }
@@ -75,7 +75,7 @@ fn compare_check(seen: &mut Seen, config: &Config, model: &[u64]) -> Compared {
     const UNWRITTEN: u64 = 0x7777;
     let (want, row) = if !plain::valid(config) {
         (1, UNWRITTEN)
-    } else if model.len() != 7 * config.states() {
+    } else if model.len() != plain::model_length(config.states()) {
         (7, UNWRITTEN)
     } else {
         plain::bad_row(config, model).map_or((0, UNWRITTEN), |row| (13, row))
@@ -128,7 +128,7 @@ pub fn compare_fitted(
     }
     let explained = bad.is_some_and(|bad| {
         let state = bad as usize;
-        let words = &model[7 * state..7 * state + 7];
+        let words = &model[ROW_WORDS * state..ROW_WORDS * (state + 1)];
         let fallback = words[6] == 1 || words[6] == 2;
         let decimal_zero = fitted.states()[state].adjustment.is_zero();
         let before = rust.is_none_or(|row| bad < row);
@@ -140,7 +140,7 @@ pub fn compare_fitted(
 }
 
 pub fn print(config: &Config, model: &[u64]) -> String {
-    let rows = model.chunks(7).enumerate();
+    let rows = model.chunks(ROW_WORDS).enumerate();
     let rows = rows.map(|(i, row)| format!("row {i}: {}\n", join(row)));
     format!(
         "config {}\n{}",

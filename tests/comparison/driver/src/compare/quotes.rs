@@ -3,7 +3,7 @@
 use crate::compare::sides::{Sides, same_memory};
 use crate::compare::{Case, Compared, Difference, Run, fits, smallest};
 use crate::inputs::quotes::{self as inputs, SMALL};
-use crate::paper::{Config, Memory, Quote, join};
+use crate::paper::{Config, DOMAIN, Memory, Quote, join};
 use crate::plain::{self, MOST_IN_CELL, MOST_PAIRS, MOST_TOTAL};
 use crate::port::{self, Lent};
 use crate::random::Random;
@@ -91,7 +91,7 @@ fn alphabet(config: &Config, times: &[u64]) -> Vec<Quote> {
         .flat_map(|time| kinds.map(|kind| of(time, kind)))
         .collect();
     let good = quotes[1].words();
-    for (word, value) in [(1, 0), (2, good[1]), (2, good[2] + 1), (4, 1_000_000_001)] {
+    for (word, value) in [(1, 0), (2, good[1]), (2, good[2] + 1), (4, DOMAIN + 1)] {
         let mut words = good;
         words[word] = value;
         quotes.push(Quote::of_words(&words));
@@ -270,7 +270,8 @@ fn raise_all(random: &mut Random, memory: &mut Memory) {
         MOST_IN_CELL - 2,
         u64::MAX,
     ];
-    const TOTALS: [i64; 6] = [0, 1 << 53, -(1 << 53), (1 << 53) + 1, i64::MAX, i64::MIN];
+    const MOST: i64 = MOST_TOTAL.cast_signed();
+    const TOTALS: [i64; 6] = [0, MOST, -MOST, MOST + 1, i64::MAX, i64::MIN];
     for cell in memory.stay.iter_mut().chain(&mut memory.moved) {
         *cell = random.choose(&CELLS);
     }

@@ -3,7 +3,7 @@
 use market_maker_rs::analytics::micro_price::MicroPriceCalibrator;
 
 use crate::compare::{Case, Compared, Difference};
-use crate::paper::{Memory, Quote, join};
+use crate::paper::{COUNTERS, Memory, Quote, join};
 use crate::plain;
 use crate::port::Lent;
 use crate::rust;
@@ -62,7 +62,7 @@ impl Sides {
             ask_rust(&case, seen, rust, quote, want)?;
             case.equal(
                 "the Rust's counters",
-                &memory.record.words()[6..],
+                &memory.record.words()[COUNTERS..],
                 &rust::counters(rust),
             )?;
         }

@@ -8,7 +8,7 @@ use crate::compare::models;
 use crate::compare::{Case, Compared, Run};
 use crate::inputs::models::{STEP, damage, fine_model};
 use crate::inputs::quotes::{self as inputs, LARGE, MIDDLE, SMALL};
-use crate::paper::{Config, Quote, join};
+use crate::paper::{Config, Quote, ROW_WORDS, SIGNAL_WORDS, join};
 use crate::plain;
 use crate::port;
 use crate::random::Random;
@@ -89,9 +89,17 @@ fn small_sizes(run: &mut Run) -> Compared {
 
 const UNWRITTEN: u64 = 0x7777;
 
-/// The port's signal: its answer, its four words and the row.
-fn asked(seen: &mut Seen, config: &Config, model: &[u64], quote: &Quote) -> (u64, [u64; 4], u64) {
-    let (mut out, mut row) = ([UNWRITTEN; 4], UNWRITTEN);
+/// A signal's words where nothing is written.
+const NO_SIGNAL: [u64; SIGNAL_WORDS] = [UNWRITTEN; SIGNAL_WORDS];
+
+/// The port's signal: its answer, its words and the row.
+fn asked(
+    seen: &mut Seen,
+    config: &Config,
+    model: &[u64],
+    quote: &Quote,
+) -> (u64, [u64; SIGNAL_WORDS], u64) {
+    let (mut out, mut row) = (NO_SIGNAL, UNWRITTEN);
     let answer = port::signal(&config.words(), model, quote, &mut out, &mut row);
     seen.answer(Operation::Signal, answer);
     if answer == 0 {
@@ -124,8 +132,8 @@ fn compare_signal(
     seen.volume("signals", 1);
     let want = match plain::signal(config, model, quote) {
         Ok(words) => (0, words, UNWRITTEN),
-        Err((13, state)) => (13, [UNWRITTEN; 4], state),
-        Err((number, _)) => (number, [UNWRITTEN; 4], UNWRITTEN),
+        Err((13, state)) => (13, NO_SIGNAL, state),
+        Err((number, _)) => (number, NO_SIGNAL, UNWRITTEN),
     };
     case.equal("answer, words and row", (answer, out, row), want)?;
     match rust {
@@ -145,7 +153,7 @@ fn same_as_rust(
     case: &Case,
     model: &MicroPriceModel,
     quote: &Quote,
-    (answer, out): (u64, [u64; 4]),
+    (answer, out): (u64, [u64; SIGNAL_WORDS]),
     decimal: Option<Decimal>,
 ) -> Compared {
     match rust::signal(model, quote) {
@@ -183,7 +191,7 @@ pub fn compare_fitted(
         }
         let outside = |state: usize| {
             let rust = status_number(fitted.states()[state].status);
-            model[7 * state + 6] == 3 && rust == 0
+            model[ROW_WORDS * state + 6] == 3 && rust == 0
         };
         if plain::state(config, &quote).is_some_and(outside) {
             continue;

@@ -1,6 +1,7 @@
 //! Model tables of numbers that are exact as a float and as a decimal, and damaged ones.
 
-use crate::paper::Config;
+use crate::paper::{Config, ROW_WORDS};
+use crate::plain;
 use crate::random::Random;
 
 /// The least difference between two floats of these tables.
@@ -21,7 +22,7 @@ fn half_spread(config: &Config, state: usize) -> f64 {
 /// A model that the check accepts.
 pub fn fine_model(random: &mut Random, config: &Config) -> Vec<u64> {
     let states = config.states();
-    let mut model = vec![0; 7 * states];
+    let mut model = vec![0; plain::model_length(states)];
     for state in 0..states {
         let mirror = config.mirror(state);
         if mirror < state {
@@ -37,7 +38,7 @@ pub fn fine_model(random: &mut Random, config: &Config) -> Vec<u64> {
                     (sign * value).to_bits()
                 }
             };
-            model[7 * at..7 * at + 7].copy_from_slice(&[
+            model[ROW_WORDS * at..ROW_WORDS * (at + 1)].copy_from_slice(&[
                 at as u64 % config.buckets + 1,
                 at as u64 / config.buckets + 1,
                 row.observations,
@@ -143,31 +144,34 @@ pub fn special_values(config: &Config, state: usize, near: u64) -> Vec<u64> {
 pub fn damage(random: &mut Random, config: &Config, model: &mut [u64]) {
     let state = random.index(config.states());
     let mirror = config.mirror(state);
-    let word = random.index(7);
-    let values = special_values(config, state, model[7 * state + word]);
+    let word = random.index(ROW_WORDS);
+    let values = special_values(config, state, model[ROW_WORDS * state + word]);
     let value = random.choose(&values);
     match random.below(7) {
-        0 => model[7 * state + word] = value,
+        0 => model[ROW_WORDS * state + word] = value,
         1 => {
             // The adjustment about half the spread, in both rows.
             let size = half_spread(config, state) + random.choose(&[0.0, STEP, -STEP, 1.0]);
-            model[7 * state + 4] = size.to_bits();
-            model[7 * mirror + 4] = (-size).to_bits();
+            model[ROW_WORDS * state + 4] = size.to_bits();
+            model[ROW_WORDS * mirror + 4] = (-size).to_bits();
         }
         2 => {
             let status = random.choose(&[0, 1, 2, 3, 3, 4, u64::MAX]);
-            model[7 * state + 6] = status;
-            model[7 * mirror + 6] = status;
+            model[ROW_WORDS * state + 6] = status;
+            model[ROW_WORDS * mirror + 6] = status;
         }
         3 => {
             let other = random.index(config.states());
-            (0..7).for_each(|i| model.swap(7 * state + i, 7 * other + i));
+            (0..ROW_WORDS).for_each(|i| model.swap(ROW_WORDS * state + i, ROW_WORDS * other + i));
         }
         4 => {
-            model[7 * state + 5] = value;
-            model[7 * mirror + 5] = value;
+            model[ROW_WORDS * state + 5] = value;
+            model[ROW_WORDS * mirror + 5] = value;
         }
-        5 => model.swap(7 * state + word, 7 * random.index(config.states()) + word),
-        _ => model[7 * state + word] = random.word(),
+        5 => {
+            let other = random.index(config.states());
+            model.swap(ROW_WORDS * state + word, ROW_WORDS * other + word);
+        }
+        _ => model[ROW_WORDS * state + word] = random.word(),
     }
 }

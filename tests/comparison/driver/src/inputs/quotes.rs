@@ -1,7 +1,9 @@
 //! Configurations and quotes, most of them near a limit of document 01.
 
-use crate::paper::{Config, DOMAIN, Quote, Record};
-use crate::plain;
+use crate::paper::{
+    CONFIG_WORDS, COUNTERS, Config, DOMAIN, MAX_STATES, QUOTE_WORDS, Quote, RECORD_WORDS, Record,
+};
+use crate::plain::{self, MOST_PAIRS, MOST_TOTAL};
 use crate::random::Random;
 
 /// Buckets and spreads of at most 27 states.
@@ -88,7 +90,7 @@ pub fn lively_config(random: &mut Random, shapes: &[(u64, u64)]) -> Config {
 /// A valid configuration with one word changed, often so that it is invalid.
 pub fn changed_config(random: &mut Random) -> Config {
     let mut words = config(random, &SMALL).words();
-    let at = random.index(5);
+    let at = random.index(CONFIG_WORDS);
     words[at] = special_word(random, words[at]);
     Config::of_words(&words)
 }
@@ -103,19 +105,19 @@ pub fn special_word(random: &mut Random, near: u64) -> u64 {
         4,
         85,
         86,
-        255,
-        256,
-        257,
+        MAX_STATES - 1,
+        MAX_STATES,
+        MAX_STATES + 1,
         DOMAIN - 1,
         DOMAIN,
         DOMAIN + 1,
         1 << 32,
         (1 << 32) + 3,
-        (1 << 52) - 1,
-        1 << 52,
-        (1 << 52) + 1,
-        1 << 53,
-        (1 << 53) + 1,
+        MOST_PAIRS - 1,
+        MOST_PAIRS,
+        MOST_PAIRS + 1,
+        MOST_TOTAL,
+        MOST_TOTAL + 1,
         1 << 63,
         u64::MAX,
     ];
@@ -233,7 +235,7 @@ pub fn now_and_then_refused(random: &mut Random, config: &Config, quote: Quote) 
             }
         }
         2 if random.one_in(3) => {
-            let word = random.index(4);
+            let word = random.index(QUOTE_WORDS - 1);
             let over = random.choose(&[DOMAIN + 1, 1 << 32, u64::MAX]);
             let mut words = quote.words();
             words[1 + word] = over;
@@ -260,12 +262,12 @@ pub fn any_record(random: &mut Random) -> Record {
         let near = random.word();
         special_word(random, near)
     };
-    let mut words = [0; 10];
+    let mut words = [0; RECORD_WORDS];
     if random.one_in(2) {
         words[0] = 1;
-        (1..6).for_each(|i| words[i] = word(random));
+        (1..COUNTERS).for_each(|i| words[i] = word(random));
     }
-    (6..10).for_each(|i| words[i] = word(random));
+    (COUNTERS..RECORD_WORDS).for_each(|i| words[i] = word(random));
     Record::of_words(&words)
 }
 

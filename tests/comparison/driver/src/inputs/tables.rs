@@ -1,14 +1,14 @@
 //! Tables for the fit: random ones, and ones made to reach each of its answers and limits.
 
 use crate::inputs::quotes::{self, SMALL};
-use crate::paper::{Config, Memory, Tables};
-use crate::plain;
+use crate::paper::{Config, DOMAIN, Memory, Tables};
+use crate::plain::{self, MOST_PAIRS, MOST_TOTAL};
 use crate::random::{self, Random, enter};
 
 /// Tables of at most 27 states, of every kind below.
 pub fn small(random: &mut Random) -> Memory {
     let config = Config {
-        tick: random.choose(&[1, 1, 5, 7, 100, 999_999_937, 1_000_000_000]),
+        tick: random.choose(&[1, 1, 5, 7, 100, 999_999_937, DOMAIN]),
         ..quotes::lively_config(random, &SMALL)
     };
     let mut memory = match random.below(26) {
@@ -38,7 +38,7 @@ pub fn small(random: &mut Random) -> Memory {
 /// Tables of many states: random ones, busy enough for the states to hang together, or a few busy states among empty ones.
 pub fn large(random: &mut Random, shapes: &[(u64, u64)]) -> Memory {
     let config = Config {
-        tick: random.choose(&[1, 5, 1_000_000_000]),
+        tick: random.choose(&[1, 5, DOMAIN]),
         ..quotes::lively_config(random, shapes)
     };
     Memory::of_tables(&match random.below(4) {
@@ -122,7 +122,7 @@ fn slow_exit(random: &mut Random, config: Config) -> Tables {
     let (from, to) = (random.index(states), random.index(states));
     let exits = 1 + random.below(9_000);
     let about = (exits as u128 * 1_000_000_000_000) as u64;
-    let stays = (about / 100 * (97 + random.below(6))).min(1 << 51);
+    let stays = (about / 100 * (97 + random.below(6))).min(MOST_PAIRS / 2);
     enter(&mut tables, from, from, 0, stays);
     enter(&mut tables, from, to, random.choose(&[1, 2, -1]), exits);
     if random.one_in(2) {
@@ -174,7 +174,7 @@ fn drift(random: &mut Random, config: Config) -> Tables {
     tables
 }
 
-/// An adjustment about 2^96: 2^53 half ticks, times 2^15 visits, times a tick of 2^29, halved.
+/// An adjustment about 2^96: the largest total, 2^53 half ticks, times 2^15 visits, times a tick of 2^29, halved.
 fn about_2_to_96(random: &mut Random, config: Config) -> Tables {
     let spreads = random.choose(&[2, 3, 5]);
     let config = Config {
@@ -248,11 +248,11 @@ fn fallback_adjusted(random: &mut Random, config: Config) -> Tables {
     tables
 }
 
-/// Counts near 2^52 in all.
+/// Counts near the most pairs in all.
 fn large_counts(random: &mut Random, config: Config) -> Tables {
     let mut tables = Tables::new(config);
     let states = config.states();
-    let mut left = 1u64 << 52;
+    let mut left = MOST_PAIRS;
     for _ in 0..6 {
         let count = left / (2 + random.below(3));
         left -= count;
@@ -284,7 +284,7 @@ pub fn spoil(random: &mut Random, memory: &mut Memory) {
             4 => memory.moved[cell] = quotes::special_word(random, memory.moved[cell]),
             5 => memory.totals[state] = quotes::special_word(random, 0).cast_signed(),
             6 => {
-                let total = quotes::special_word(random, 1 << 53).cast_signed();
+                let total = quotes::special_word(random, MOST_TOTAL).cast_signed();
                 memory.totals[state] = total;
                 let mirror = memory.config.mirror(state);
                 memory.totals[mirror] = total.wrapping_neg();
