@@ -84,14 +84,6 @@ pub fn image_length(config: MicroPriceConfig) -> usize
     HEADER + 16 * cell_count(config) + 8 * config::inner::state_count(config)
 }
 
-// The form of an image, by its stay offset.
-fn form_in(b: &[u8]) -> u64
-    requires { ⌜ headerLength oldest ≤ length (now b) ⌝ }
-    ensures { λ r. ⌜ r ≡ formIn (given b) ⌝ }
-{
-    image_words::get_word(b, 48) / 8
-}
-
 pub fn config_in(b: &[u8]) -> MicroPriceConfig
     requires { ⌜ headerLength oldest ≤ length (now b) ⌝ }
     ensures { λ r. ⌜ r ≡ configIn (formIn (given b)) (given b) ⌝ }
@@ -172,9 +164,6 @@ pub fn is_laid_out(b: &[u8], config: MicroPriceConfig, rec: Record) -> bool
     requires { ⌜ Valid config × (headerLength oldest ≤ length (now b)) × (config ≡ configIn (formIn (now b)) (now b)) × (rec ≡ recordIn (formIn (now b)) (now b)) ⌝ }
     ensures { λ r. ⌜ r ≡ laidOut (formIn (given b)) (given b) ⌝ }
 {
-    if form_in(b) != FORM as u64 {
-        return false;
-    }
     let h = header_words(config, rec);
     let same = same_words(b, &h);
     same & (b.len() == image_length(config))
