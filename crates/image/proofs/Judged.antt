@@ -62,12 +62,9 @@ save-known c m long e =
 
 -- ---- restore
 
--- restore reads no other form than the one that save writes, and no form has fewer words than the oldest
+-- restore reads no other form than the one that save writes
 pub read-newest : (form : ℕ) → isRead form ≡ true → form ≡ newest
 read-newest form e = eqb-true form newest e
-
-pub read-least : (form : ℕ) → isRead form ≡ true → oldest ≤ form
-read-least form e = omega (arith, read-newest form e)
 
 -- an image that is laid out is of a form that is read, has the header of what it holds, and its length
 module _ (form : ℕ) (b : List ℕ) (e : laidOut form b ≡ true) where
