@@ -11,7 +11,7 @@ use Rattle.basics.proofs.Tests.{zero-not-one}
 use Rattle.floats.specs.Floats.{posZero, abs, asGreat, max, isInfinite, clamp, plusZero, half}
 use Rattle.refusals.specs.Refusals.{refusal}
 use Rattle.refusals.specs.declared.Check.the-variants.{Fine}
-use Rattle.config.specs.Configuration.{newConfig, withMinStateObservations}
+use Rattle.config.specs.Configuration.{newConfig, withMinStateObservations, withMaxQuoteGapMs}
 use Rattle.config.specs.declared.MicroPriceConfig.{MicroPriceConfig}
 use Rattle.tally.specs.Entries.{tables}
 use Rattle.tally.specs.Rules.{Memory}
@@ -27,9 +27,9 @@ use Rattle.fit_estimates.specs.Estimates.{adjusted, estimateOf}
 use Rattle.fit.specs.Fit.{FitOutcome, judgedRows, fitOf, endFit, fittedWith, fitCounts}
 use Rattle.fit.proofs.MoreRounds.{fit-more}
 
--- tick 1, n 3, s 1, least 1
+-- tick 1, n 3, s 1, least 1, gap 60,000
 abbrev pub config39 : MicroPriceConfig
-config39 = withMinStateObservations (newConfig 1 3 1) 1
+config39 = withMaxQuoteGapMs (withMinStateObservations (newConfig 1 3 1) 1) 60000
 
 -- states 0 and 2 each move once to themselves and once to state 1
 abbrev pub memory39 : Memory Previous

@@ -11,7 +11,7 @@ use Rattle.image_words.proofs.Words.{words-by}
 use Rattle.refusals.specs.Refusals.{refusal}
 use Rattle.refusals.specs.declared.Check.the-variants as Check
 use Rattle.refusals.specs.declared.Refusal.the-variants.{SliceLength}
-use Rattle.config.specs.Configuration.{newConfig, configWords}
+use Rattle.config.specs.Configuration.{newConfig, withMaxQuoteGapMs, configWords}
 use Rattle.config.specs.declared.MicroPriceConfig.{MicroPriceConfig}
 use Rattle.quotes.specs.declared.TopOfBook.{TopOfBook}
 use Rattle.tally.specs.Entries.{tables}
@@ -28,9 +28,9 @@ use Rattle.history.specs.Calls.{Call, quote, save, restore, observes, sa
 use Rattle.history.specs.Demand.{historyOf, Demand3}
 use Rattle.history.proofs.Demand.{demand-3}
 
--- tick 1, three buckets, one spread state: an image has 328 bytes
+-- tick 1, three buckets, one spread state, gap 60,000: an image has 328 bytes
 abbrev pub three-states : MicroPriceConfig
-three-states = newConfig 1 3 1
+three-states = withMaxQuoteGapMs (newConfig 1 3 1) 60000
 
 -- bid 100 and ask 101 at a time, of one size on both sides
 abbrev pub even-quote : ℕ → ℕ → TopOfBook
