@@ -102,7 +102,9 @@ fn print_signal(model: &Model, quote: &Quote) {
 }
 
 fn main() -> Result<(), Refusal> {
-    let config = Config::new(5, 5, 2).with_min_state_observations(50);
+    let config = Config::new(5, 5, 2)
+        .with_min_state_observations(50)
+        .with_max_quote_gap_ms(60_000);
     let mut market = Market::new();
     let mut calibrator = Calibrator::new(config)?;
     for _ in 0..10_000 {

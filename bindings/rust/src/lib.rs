@@ -7,7 +7,9 @@
 //! ```
 //! use micro_price::{Calibrator, Config, Quote, Source};
 //!
-//! let config = Config::new(1, 3, 2).with_min_state_observations(1);
+//! let config = Config::new(1, 3, 2)
+//!     .with_min_state_observations(1)
+//!     .with_max_quote_gap_ms(60_000);
 //! let mut calibrator = Calibrator::new(config)?;
 //! calibrator.observe(&Quote { timestamp_ms: 0, bid: 100, ask: 101, bid_size: 9, ask_size: 1 })?;
 //! calibrator.observe(&Quote { timestamp_ms: 1, bid: 100, ask: 102, bid_size: 5, ask_size: 5 })?;
