@@ -121,9 +121,9 @@ extern "C" {
 #define MICRO_PRICE_IMAGE_MIN_STATE_OBSERVATIONS 4
 #define MICRO_PRICE_IMAGE_MAX_QUOTE_GAP_MS 5
 
-/* Defaults of a configuration's last two words. */
+/* Defaults of a configuration's last two words, for a caller that has none of its own. An image carries its own. */
 #define MICRO_PRICE_MIN_STATE_OBSERVATIONS 100
-#define MICRO_PRICE_MAX_QUOTE_GAP_MS 60000
+#define MICRO_PRICE_MAX_QUOTE_GAP_MS 5000
 
 /* The status of a state, word 6 of its row. */
 #define MICRO_PRICE_STATUS_CALIBRATED 0

@@ -120,7 +120,7 @@ refused_in_both "save and restore exchanged in both" $rust 'CALL_SAVE 1
 /// That of one that restores.
 pub const CALL_RESTORE: u64 = 2;' 'CALL_SAVE: u64 = 2;
 pub const CALL_RESTORE: u64 = 1;'
-refused "another default" $header 'MAX_QUOTE_GAP_MS 60000' 'MAX_QUOTE_GAP_MS 5000'
+refused "another default" $header 'MAX_QUOTE_GAP_MS 5000' 'MAX_QUOTE_GAP_MS 60000'
 refused "another status" $header 'STATUS_RARE 1' 'STATUS_RARE 2'
 refused "another source" $header 'SOURCE_SPREAD_OUT_OF_RANGE 4' 'SOURCE_SPREAD_OUT_OF_RANGE 5'
 refused "a number that nothing has" $header '#define MICRO_PRICE_STATUS_RARE 1' '#define MICRO_PRICE_STATUS_RARE 1

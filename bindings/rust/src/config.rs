@@ -19,8 +19,8 @@ pub struct Config {
 impl Config {
     /// The fewest observations of a configuration that does not set them.
     pub const MIN_STATE_OBSERVATIONS: u64 = 100;
-    /// The longest gap of a configuration that does not set it.
-    pub const MAX_QUOTE_GAP_MS: u64 = 60_000;
+    /// The longest gap of a configuration that does not set it: document 02, Q-5.
+    pub const MAX_QUOTE_GAP_MS: u64 = 5_000;
 
     /// A configuration with the two defaults.
     pub const fn new(tick_size: u64, imbalance_buckets: u64, spread_states: u64) -> Self {

@@ -1,9 +1,9 @@
-//! Each operation against results worked out by hand from document 01. "Its configuration" is n = 3, s = 2, tick 1, least
-//! observations 1, gap 1,000: six states, 0 to 2 for a spread of one tick, 3 to 5 for two.
+//! Each operation against results worked out by hand from documents 01 and 02. "Its configuration" is n = 3, s = 2, tick 1,
+//! least observations 1, gap 1,000: six states, 0 to 2 for a spread of one tick, 3 to 5 for two.
 
 use micro_price::sys::{
-    IMAGE_BUCKETS, IMAGE_HEADER, IMAGE_SPREAD_STATES, IMAGE_STATES, IMAGE_TICK, QUOTE_WORDS,
-    RECORD_WORDS, ROW_WORDS, image_length,
+    IMAGE_BUCKETS, IMAGE_HEADER, IMAGE_MAX_QUOTE_GAP_MS, IMAGE_SPREAD_STATES, IMAGE_STATES,
+    IMAGE_TICK, QUOTE_WORDS, RECORD_WORDS, ROW_WORDS, image_length,
 };
 use micro_price::{
     Calibrator, Call, Config, Counters, Estimate, Model, OutsideRoom, Quote, Refusal, Replayed,
@@ -27,6 +27,11 @@ const TABLES: usize = IMAGE_HEADER / 8;
 const HALF: u64 = 0x3fe0_0000_0000_0000;
 const MINUS_HALF: u64 = 0xbfe0_0000_0000_0000;
 const ONE: u64 = 0x3ff0_0000_0000_0000;
+
+/// A configuration with the default observations and a gap of 60,000.
+fn shaped(tick_size: u64, imbalance_buckets: u64, spread_states: u64) -> Config {
+    Config::new(tick_size, imbalance_buckets, spread_states).with_max_quote_gap_ms(60_000)
+}
 
 fn quote(words: [u64; QUOTE_WORDS]) -> Quote {
     Quote::from_words(words)
@@ -106,26 +111,26 @@ fn a_configuration_has_defaults_and_is_judged() {
     let made = Config::new(7, 5, 4);
     assert_eq!(
         (made.min_state_observations, made.max_quote_gap_ms),
-        (100, 60_000)
+        (100, 5_000)
     );
     let valid = [
-        Config::new(1, 3, 1),
-        Config::new(DOMAIN, 3, 85),
-        Config::new(1, 255, 1),
+        shaped(1, 3, 1),
+        shaped(DOMAIN, 3, 85),
+        shaped(1, 255, 1),
         CONFIG,
     ];
     for config in valid {
         assert_eq!(config.validate(), Ok(()), "{config:?}");
     }
     let invalid = [
-        Config::new(0, 3, 2),
-        Config::new(DOMAIN + 1, 3, 2),
-        Config::new(1, 1, 2),
-        Config::new(1, 4, 2),
-        Config::new(1, 3, 0),
-        Config::new(1, 3, 86),
-        Config::new(1, 257, 1),
-        Config::new(1, (1 << 32) + 3, 2),
+        shaped(0, 3, 2),
+        shaped(DOMAIN + 1, 3, 2),
+        shaped(1, 1, 2),
+        shaped(1, 4, 2),
+        shaped(1, 3, 0),
+        shaped(1, 3, 86),
+        shaped(1, 257, 1),
+        shaped(1, (1 << 32) + 3, 2),
         CONFIG.with_min_state_observations(0),
         CONFIG.with_max_quote_gap_ms(0),
     ];
@@ -133,7 +138,7 @@ fn a_configuration_has_defaults_and_is_judged() {
         assert_eq!(config.validate(), Err(Refusal::Configuration), "{config:?}");
         assert_eq!(Calibrator::new(config), Err(Refusal::Configuration));
     }
-    assert_eq!((CONFIG.states(), Config::new(1, 51, 5).states()), (6, 255));
+    assert_eq!((CONFIG.states(), shaped(1, 51, 5).states()), (6, 255));
 }
 
 #[test]
@@ -189,6 +194,40 @@ fn the_longest_gap_counts() {
     assert_eq!(over.counters().pairs, 0);
     assert_eq!(over.counters().skipped_gap_pairs, 1);
     assert_eq!(over.last_quote(), Some(quote([1001, 100, 101, 5, 5])));
+}
+
+/// Document 02, Q-5: a gap of 5,000 counts where none is named, and one of 5,001 is skipped.
+#[test]
+fn the_default_gap_is_five_seconds() {
+    let counted = |config, pause| {
+        let quotes = [0, pause].map(|time| [time, 100, 101, 9, 1]);
+        let counters = after(config, &quotes).counters();
+        (counters.pairs, counters.skipped_gap_pairs)
+    };
+    let by_default = Config::new(1, 3, 2).with_min_state_observations(1);
+    assert_eq!(counted(by_default, 5_000), (1, 0));
+    assert_eq!(counted(by_default, 5_001), (0, 1));
+    let named = by_default.with_max_quote_gap_ms(60_000);
+    assert_eq!(counted(named, 5_001), (1, 0));
+}
+
+/// Document 02, Q-5: "Saved images carry their own gap and continue with it".
+#[test]
+fn an_image_carries_its_own_gap() {
+    let first = [0, 100, 101, 9, 1];
+    let config = CONFIG.with_max_quote_gap_ms(60_000);
+    let saved = after(config, &[first]).save().unwrap();
+    let restored = |gap: u64| {
+        let mut image = saved.clone();
+        image[8 * IMAGE_MAX_QUOTE_GAP_MS..][..8].copy_from_slice(&gap.to_le_bytes());
+        let mut calibrator = Calibrator::restore(&image).unwrap();
+        calibrator.observe(&quote([6_000, 100, 101, 9, 1])).unwrap();
+        let counters = calibrator.counters();
+        let gap = calibrator.config().max_quote_gap_ms;
+        (gap, counters.pairs, counters.skipped_gap_pairs)
+    };
+    assert_eq!(restored(60_000), (60_000, 1, 0));
+    assert_eq!(restored(5_000), (5_000, 0, 1));
 }
 
 #[test]
@@ -498,7 +537,7 @@ fn a_bad_model_is_refused() {
     let short = Model::from_words(CONFIG, example()[ROW_WORDS..].to_vec());
     assert_eq!(short.check(), Err(Refusal::SliceLength));
     assert_eq!(short.signal(&heavy_bid), Err(Refusal::SliceLength));
-    let even = Model::from_words(Config::new(1, 2, 3), example());
+    let even = Model::from_words(shaped(1, 2, 3), example());
     assert_eq!(even.check(), Err(Refusal::Configuration));
     assert_eq!(even.signal(&heavy_bid), Err(Refusal::Configuration));
 }
@@ -558,7 +597,7 @@ fn an_evening_counts_its_window_and_fits() {
             .unwrap_err()
             .number()
     };
-    let even = Config::new(1, 4, 2);
+    let even = shaped(1, 4, 2);
     let unsorted = [&recording[QUOTE_WORDS..], &recording[..QUOTE_WORDS]].concat();
     assert_eq!(refused(even, &recording[1..], 0, 10), 7);
     assert_eq!(refused(even, &unsorted, 10, 0), 14);

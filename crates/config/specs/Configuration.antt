@@ -10,7 +10,7 @@ use Rattle.refusals.specs.Refusals.{refuseIf}
 use Rattle.refusals.specs.declared.Check.{Check}
 use Rattle.config.specs.declared.MicroPriceConfig.{MicroPriceConfig}
 
--- tick, buckets and spread states alone take the defaults 100 and 60,000
+-- tick, buckets and spread states alone take the defaults 100 and 5,000, which document 02, Q-5, puts in place of 01's 60,000
 abbrev pub newConfig : ℕ → ℕ → ℕ → MicroPriceConfig
 newConfig tick n s =
     record {
@@ -18,7 +18,7 @@ newConfig tick n s =
       «imbalance_buckets» = n;
       «spread_states» = s;
       «min_state_observations» = 100;
-      «max_quote_gap_ms» = 60000;
+      «max_quote_gap_ms» = 5000;
     }
 
 abbrev pub withMinStateObservations : MicroPriceConfig → ℕ → MicroPriceConfig

@@ -24,7 +24,8 @@ pub struct MicroPriceConfig {
 impl MicroPriceConfig {
     pub const MIN_STATE_OBSERVATIONS: u64 = 100;
 
-    pub const MAX_QUOTE_GAP_MS: u64 = 60_000;
+    // Document 02, Q-5; document 01 has 60,000.
+    pub const MAX_QUOTE_GAP_MS: u64 = 5_000;
 
     // A configuration with the default observations and gap.
     pub fn new(tick_size: u64, imbalance_buckets: u64, spread_states: u64) -> Self
