@@ -30,6 +30,8 @@
 #   7 start end QUOTES              a window: 14 or 15 alone; or 0, first, past
 #   8 CONFIG start end QUOTES       an evening: 1, 14 or 15 alone; or 0, 16, 17 or 18, then invalid quotes RECORD ENTRIES, and
 #                                   after 0 TABLE
+#   9 tick n s                      a configuration made from these alone: CONFIG. The Rust's constructor is asked with the gap
+#                                   set to 5,000, which is document 02's default and not the Rust's
 #
 # Where the answer is 1, n × s is at most 27 in cases 3, 4 and 8, and the image of case 3 is as long as that of a valid n and s.
 # No case has over 27 states but the last of the sample, a fit of 255. Most in a case: 2,200 words, 350 quotes, 600 entries, 15 rows.

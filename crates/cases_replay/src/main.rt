@@ -1,5 +1,5 @@
 // Replays a list that saves, counts on, restores, is refused and goes on; a restore of another configuration is left out. Prints each answer, then the words of the two images that it saved.
-// Then a list with a call of no kind, which is not replayed.
+// Then a list with a call of no kind, which is not replayed, and calibrators under the default gap and under the gap of an image.
 use calibrator::Previous;
 use calibrator::Record;
 use config::MicroPriceConfig;
@@ -7,6 +7,8 @@ use history_replay::Replayed;
 use libc::STDOUT_FILENO;
 ghost use mathlib.Core.Path.{_≡_};
 ghost use Rattle.cases_replay.specs.Journal as Journal;
+
+mod gaps;
 
 fn setup() -> MicroPriceConfig
     ensures { λ c. ⌜ c ≡ Journal.setup ⌝ }
@@ -217,4 +219,5 @@ fn main() {
     let answer = bad.answer;
     show_end(answer);
     show(&one);
+    gaps::show_all();
 }

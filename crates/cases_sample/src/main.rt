@@ -22,6 +22,17 @@ ghost use Rattle.basics.specs.Loan.{given};
 
 mod models;
 
+// ---- case 9
+
+// The words of the configuration that is made from tick, buckets and spread states alone.
+fn show_made(words: &[u64]) {
+    let made = MicroPriceConfig::new(word_at(words, 1), word_at(words, 2), word_at(words, 3));
+    let mut held = [0; config::inner::CONFIG_WORDS];
+    config::inner::put_config(&mut held, made);
+    show(held[0]);
+    cases_shared::showing::show_all_after(&held[1..]);
+}
+
 // ---- cases 5, 6 and 7
 
 fn run_models(words: &[u64]) {
@@ -310,6 +321,8 @@ fn run_case(words: &[u64]) {
         run_models(words);
     } else if kind == 7 {
         run_window(words);
+    } else if kind == 9 {
+        show_made(words);
     } else {
         run_tables(words);
     }
@@ -335,7 +348,7 @@ fn run_all(text: &[u8]) {
 
 // There is room for all cases.
 fn main() {
-    let mut input = [0; 144435];
+    let mut input = [0; 144698];
     let got = io::read_full(STDIN_FILENO, &mut input);
     run_all(&input[..got]);
 }

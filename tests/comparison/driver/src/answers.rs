@@ -107,9 +107,17 @@ pub fn answer(line: &str) -> Option<Vec<u64>> {
         6 => signals(&mut words)?,
         7 => window(&mut words)?,
         8 => evening(&mut words)?,
+        9 => made(&mut words)?,
         _ => return None,
     };
     words.one().is_none().then_some(answer)
+}
+
+/// None for a number that the Rust's 32 bits do not hold.
+fn made(words: &mut Words) -> Option<Vec<u64>> {
+    let [tick, buckets, spreads] = words.some()?;
+    let (buckets, spreads) = (buckets.try_into().ok()?, spreads.try_into().ok()?);
+    Some(rust::made(tick, buckets, spreads).words().to_vec())
 }
 
 /// What a calibrator holds: its record, then its entries.

@@ -1,9 +1,12 @@
-//! The values of document 01.
+//! The values of document 01, as document 02 has changed them.
 
 /// Largest price, size and tick of the domain.
 pub const DOMAIN: u64 = 1_000_000_000;
 /// Most states.
 pub const MAX_STATES: u64 = 256;
+
+/// The largest gap of a configuration that names none (document 02, Q-5).
+pub const DEFAULT_GAP: u64 = 5_000;
 
 /// Words by which a configuration is lent.
 pub const CONFIG_WORDS: usize = 5;

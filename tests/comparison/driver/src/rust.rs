@@ -14,7 +14,9 @@ use rust_decimal::prelude::{FromPrimitive, ToPrimitive};
 use serde::de::DeserializeOwned;
 use serde::{Deserialize, Serialize};
 
-use crate::paper::{Config, DOMAIN, Fit, Memory, Quote, ROW_WORDS, Record, Refusal, Row, Tables};
+use crate::paper::{
+    Config, DEFAULT_GAP, DOMAIN, Fit, Memory, Quote, ROW_WORDS, Record, Refusal, Row, Tables,
+};
 
 /// The Rust's configuration, or refusal 1. The largest tick is document 01's.
 pub fn config(config: &Config) -> Result<MicroPriceConfig, Refusal> {
@@ -40,6 +42,19 @@ fn unjudged_config(config: &Config) -> MicroPriceConfig {
     )
     .with_min_state_observations(config.least)
     .with_max_quote_gap_ms(config.gap)
+}
+
+/// What the Rust's constructor makes of these alone, with the gap set: its own default is another (document 02, Q-5).
+pub fn made(tick: u64, buckets: u32, spreads: u32) -> Config {
+    let made = MicroPriceConfig::new(Decimal::from(tick), buckets, spreads)
+        .with_max_quote_gap_ms(DEFAULT_GAP);
+    Config {
+        tick: made.tick_size.to_u64().expect("a whole tick"),
+        buckets: u64::from(made.imbalance_buckets),
+        spreads: u64::from(made.spread_states),
+        least: made.min_state_observations,
+        gap: made.max_quote_gap_ms,
+    }
 }
 
 pub fn quote(quote: &Quote) -> TopOfBook {

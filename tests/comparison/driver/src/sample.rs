@@ -18,7 +18,7 @@ const ANY: u64 = 99;
 /// Makes the words of a case after its operation.
 type Make = fn(&mut Random) -> Vec<u64>;
 
-const OPERATIONS: [(u64, Make, Wanted); 8] = [
+const OPERATIONS: [(u64, Make, Wanted); 9] = [
     (1, configuration, &[(0, 10), (1, 20)]),
     (2, quote_list, &[(ANY, 70)]),
     (
@@ -57,6 +57,7 @@ const OPERATIONS: [(u64, Make, Wanted); 8] = [
             (18, 4),
         ],
     ),
+    (9, constructor, &[(ANY, 20)]),
 ];
 
 /// Words have at most 19 digits.
@@ -69,6 +70,8 @@ pub fn sample(seed: u64) -> Vec<String> {
     for (operation, make, wanted) in OPERATIONS {
         lines.extend(of_operation(&mut random, operation, make, wanted));
     }
+    // The constructor with words that are all different.
+    lines.push(join(&[9, 7, 5, 4]));
     lines.push(largest_fit());
     lines
 }
@@ -147,6 +150,18 @@ fn configuration(random: &mut Random) -> Vec<u64> {
         return Config { tick: 0, ..config }.words().to_vec();
     }
     config.words().to_vec()
+}
+
+/// Tick, buckets and spread states alone, about half of them at or beside a limit.
+fn constructor(random: &mut Random) -> Vec<u64> {
+    let config = quotes::config(random, &SMALL);
+    let mut words = vec![config.tick, config.buckets, config.spreads];
+    for word in &mut words {
+        if random.one_in(2) {
+            *word = quotes::special_word(random, *word);
+        }
+    }
+    words
 }
 
 /// Up to `most` quotes of the domain after `last`.
