@@ -121,6 +121,9 @@ refused_in_both "save and restore exchanged in both" $rust 'CALL_SAVE 1
 pub const CALL_RESTORE: u64 = 2;' 'CALL_SAVE: u64 = 2;
 pub const CALL_RESTORE: u64 = 1;'
 refused "another default" $header 'MAX_QUOTE_GAP_MS 5000' 'MAX_QUOTE_GAP_MS 60000'
+refused "another default in Rust" bindings/rust/src/config.rs 'MAX_QUOTE_GAP_MS: u64 = 5_000' 'MAX_QUOTE_GAP_MS: u64 = 60_000'
+refused_in_both "another default in both" bindings/rust/src/config.rs 'MAX_QUOTE_GAP_MS 5000' 'MAX_QUOTE_GAP_MS 60000' \
+    'MAX_QUOTE_GAP_MS: u64 = 5_000' 'MAX_QUOTE_GAP_MS: u64 = 60_000'
 refused "another status" $header 'STATUS_RARE 1' 'STATUS_RARE 2'
 refused "another source" $header 'SOURCE_SPREAD_OUT_OF_RANGE 4' 'SOURCE_SPREAD_OUT_OF_RANGE 5'
 refused "a number that nothing has" $header '#define MICRO_PRICE_STATUS_RARE 1' '#define MICRO_PRICE_STATUS_RARE 1

@@ -3,8 +3,8 @@
 
 Holds the functions that TREE/include/micro_price.h declares against the symbols that ARCHIVE exports, and their parameters
 against crates/abi_*, where they are written, and against bindings/rust/src/sys.rs, where Rust declares them. Holds the
-header's numbers against the crates that have them, and against the constants of sys.rs. Prints each mismatch and ends with
-status 1 if there is one.
+header's numbers against the crates that have them, against the constants of sys.rs, and its defaults against those of
+config.rs beside it. Prints each mismatch and ends with status 1 if there is one.
 """
 import re
 import subprocess
@@ -18,6 +18,9 @@ RUN = {"CONFIG_WORDS", "RECORD_WORDS", "QUOTE_WORDS", "ROW_WORDS", "SIGNAL_WORDS
 
 # Numbers of the header that bindings/rust/src/sys.rs has by the same names.
 RUST = RUN | {"IMAGE_HEADER", "OTHER_CONFIGURATION"}
+
+# The defaults of a configuration, which bindings/rust/src/config.rs has by the same names.
+DEFAULTS = {"MIN_STATE_OBSERVATIONS", "MAX_QUOTE_GAP_MS"}
 
 # Constants of crates: the header's name, the file, the constant, and how many of the header's units it counts: a form is words of 8 bytes.
 CONSTANTS = [
@@ -166,6 +169,7 @@ def main():
     header = in_header(text)
     code = "\n".join(file.read_text() for file in sorted((tree / "crates").glob("abi_*/src/*.rt")))
     rust = (tree / "bindings/rust/src/sys.rs").read_text()
+    defaults = constants((tree / "bindings/rust/src/config.rs").read_text())
     found = list(differences(header, declared(code, r'pub\s+extern\s+"C"\s+', c_parameters), "crates/abi_*"))
     found += differences(header, declared(rust, r"pub\s+", rust_parameters), "bindings/rust/src/sys.rs")
     symbols = exported(archive)
@@ -174,6 +178,7 @@ def main():
     ours, theirs, in_rust = numbers_in(text), numbers(tree), constants(rust)
     found += number_differences(ours.keys() - RUN | theirs.keys(), ours, theirs, "the crates")
     found += number_differences(RUST | in_rust.keys(), ours, in_rust, "bindings/rust/src/sys.rs")
+    found += number_differences(DEFAULTS | defaults.keys(), ours, defaults, "bindings/rust/src/config.rs")
     for line in found:
         print(f"header: {line}", file=sys.stderr)
     if found or not header:
