@@ -4,6 +4,7 @@ use basics::CELL_LIMIT;
 use basics::COUNTER_LIMIT;
 use calibrator::Counters;
 use config::MicroPriceConfig;
+use quotes::inner::Level;
 use refusals::Check;
 use refusals::Refusal;
 ghost use mathlib.Core.Path.{_≡_};
@@ -276,16 +277,22 @@ pub fn check_counts(
     Check::Fine
 }
 
-// The mirrors of a configuration's states.
+// The mirrors of a configuration's states, in one walk that knows the spread level of each.
 pub fn mirrors_of(config: MicroPriceConfig) -> [usize; 256]
     requires { ⌜ Valid config ⌝ }
     ensures { λ r. ⌜ ((i : ℕ) → i < states config → getD r i 0 ≡ mirrorOf (config .«imbalance_buckets») i) ⌝ }
 {
     let n = config::inner::state_count(config);
+    let w = config.imbalance_buckets as usize;
     let mut r = [0usize; 256];
+    let mut level = Level {
+        spread: 1,
+        first: 0,
+    };
     let mut i: usize = 0;
     while i < n {
-        r[i] = quotes::inner::mirror_of(config.imbalance_buckets, i);
+        r[i] = quotes::inner::mirror_in(w, level.first, i);
+        level = quotes::inner::level_after(w, level, i);
         i += 1;
     }
     r

@@ -1,17 +1,20 @@
-// Inner functions of the model check; `half_spread_of` is for the signal too. Where one has a `requires`, each caller proves it.
+// Inner functions of the model check; `half_spread_of` is for the signal. Where one has a `requires`, each caller proves it.
 use config::MicroPriceConfig;
 use model::StateEstimate;
+use quotes::inner::Level;
 use refusals::Check;
 use refusals::Refusal;
 ghost use mathlib.Core.Path.{_≡_};
 ghost use mathlib.Core.Bool.{_&&_};
-ghost use Prim.Native.Nat.{_*_, _<_};
+ghost use Prim.Native.Nat.{ℕ, _*_, _<_};
 ghost use lib.ListN.{length};
 ghost use Rattle.basics.specs.Loan.{given};
 ghost use Rattle.refusals.specs.Refusals.{firstFrom};
 ghost use Rattle.config.specs.Configuration.{states};
 ghost use Rattle.config.specs.Inner.{Valid};
+ghost use Rattle.config.specs.declared.MicroPriceConfig.{MicroPriceConfig};
 ghost use Rattle.floats.specs.Floats.{minusZero};
+ghost use Rattle.quotes.specs.Inner.{HasLevel};
 ghost use Rattle.model_check.specs.Check.{halfSpreadOf, bucketIs, spreadIs, floatsFinite, noMinusZero, shareInRange, insideQuotes, outsideQuotes, fallbackAtMid, stateMirrors, rowFine, checkRow};
 
 fn is_minus_zero(x: f64) -> bool
@@ -29,12 +32,11 @@ pub fn half_spread_of(config: MicroPriceConfig, i: usize) -> f64
     floats::inner::half_spread(config.tick_size, (i / n + 1) as u64)
 }
 
-fn is_placed(config: MicroPriceConfig, i: usize, e: StateEstimate) -> bool
-    requires { ⌜ Valid config × (i < states config) ⌝ }
+fn is_placed(config: MicroPriceConfig, level: Level, i: usize, e: StateEstimate) -> bool
+    requires { ⌜ HasLevel (config .«imbalance_buckets») level i × (i < 256) ⌝ }
     ensures { λ r. ⌜ r ≡ (bucketIs config i e && spreadIs config i e) ⌝ }
 {
-    let n = config.imbalance_buckets as usize;
-    (e.imbalance_bucket == (i % n + 1) as u64) & (e.spread_ticks == (i / n + 1) as u64)
+    (e.imbalance_bucket == (i - level.first + 1) as u64) & (e.spread_ticks == level.spread)
 }
 
 fn floats_finite(e: StateEstimate) -> bool
@@ -62,11 +64,10 @@ fn state_values_are_consistent(e: StateEstimate) -> bool
         & (!((e.status == 1) | (e.status == 2)) | ((share == 1.0) & (e.adjustment == 0.0)))
 }
 
-fn is_on_its_side(config: MicroPriceConfig, i: usize, e: StateEstimate) -> bool
-    requires { ⌜ Valid config × (i < states config) ⌝ }
-    ensures { λ r. ⌜ r ≡ (insideQuotes config i e && outsideQuotes config i e) ⌝ }
+// Whether the adjustment is within half the spread, or outside, as the status says.
+fn is_on_its_side(half: f64, e: StateEstimate) -> bool
+    ensures { λ r. ⌜ ((config : MicroPriceConfig) (i : ℕ) → half ≡ halfSpreadOf config i → r ≡ (insideQuotes config i e && outsideQuotes config i e)) ⌝ }
 {
-    let half = half_spread_of(config, i);
     let size = floats::abs(e.adjustment);
     ((e.status != 0) | (size <= half)) & ((e.status != 3) | (half < size))
 }
@@ -80,42 +81,57 @@ fn state_mirrors(e: StateEstimate, mirror: StateEstimate) -> bool
         & (e.first_adjustment + mirror.first_adjustment == 0.0)
 }
 
-fn row_fine(config: MicroPriceConfig, i: usize, e: StateEstimate, mirror: StateEstimate) -> bool
-    requires { ⌜ Valid config × (i < states config) ⌝ }
+fn row_fine(
+    config: MicroPriceConfig,
+    level: Level,
+    i: usize,
+    e: StateEstimate,
+    mirror: StateEstimate,
+) -> bool
+    requires { ⌜ Valid config × HasLevel (config .«imbalance_buckets») level i × (i < states config) ⌝ }
     ensures { λ r. ⌜ r ≡ rowFine config i e mirror ⌝ }
 {
-    is_placed(config, i, e)
+    let half = floats::inner::half_spread(config.tick_size, level.spread);
+    is_placed(config, level, i, e)
         & (e.status <= 3)
         & floats_finite(e)
         & no_minus_zero(e)
         & state_values_are_consistent(e)
-        & is_on_its_side(config, i, e)
+        & is_on_its_side(half, e)
         & state_mirrors(e, mirror)
 }
 
-fn check_row(config: MicroPriceConfig, model: &[u64], i: usize) -> Check
-    requires { ⌜ Valid config × (length (now model) ≡ 7 * states config) × (i < states config) ⌝ }
+// Row i, of a state whose spread level is known.
+fn check_row(config: MicroPriceConfig, model: &[u64], level: Level, i: usize) -> Check
+    requires { ⌜ Valid config × (length (now model) ≡ 7 * states config) × HasLevel (config .«imbalance_buckets») level i × (i < states config) ⌝ }
     ensures { λ r. ⌜ r ≡ checkRow config (given model) i ⌝ }
 {
-    let m = quotes::inner::mirror_of(config.imbalance_buckets, i);
+    let m = quotes::inner::mirror_in(config.imbalance_buckets as usize, level.first, i);
     let e = model::inner::read_row(model, i);
     let mirror = model::inner::read_row(model, m);
-    if !row_fine(config, i, e, mirror) {
+    if !row_fine(config, level, i, e, mirror) {
         return Check::Refused(Refusal::ModelRow(i));
     }
     Check::Fine
 }
 
+// All rows, in one walk that knows the spread level of each state.
 pub fn check_rows(config: MicroPriceConfig, model: &[u64], n: usize) -> Check
     requires { ⌜ Valid config × (length (now model) ≡ 7 * states config) × (n ≡ states config) ⌝ }
     ensures { λ r. ⌜ r ≡ firstFrom (checkRow config (given model)) 0 n ⌝ }
 {
+    let w = config.imbalance_buckets as usize;
+    let mut level = Level {
+        spread: 1,
+        first: 0,
+    };
     let mut i: usize = 0;
     while i < n {
-        let k = check_row(config, model, i);
+        let k = check_row(config, model, level, i);
         let Check::Fine = k else {
             return k;
         };
+        level = quotes::inner::level_after(w, level, i);
         i += 1;
     }
     Check::Fine

@@ -2,6 +2,7 @@ pub mod Known
 pub mod Ticks
 pub mod Buckets
 pub mod States
+pub mod Levels
 pub mod Widths
 pub mod Pairs
 pub mod Exchanged

@@ -34,10 +34,6 @@ back x = omega arith
 mirror-is : (n i : ℕ) → mirrorOf n i ≡ i / n * n + (n - 1 - i % n)
 mirror-is n i = rw (back (i / n))
 
--- the mirror by one remainder
-pub mirror-by-remainder : (n i : ℕ) → i - i % n + (n - 1 - i % n) ≡ mirrorOf n i
-mirror-by-remainder n i = omega (arith, div-add-mod' i n, mirror-is n i)
-
 -- the mirror of row i, column b
 pub mirror-row : (n i b : ℕ) → b < n → mirrorOf n (i * n + b) ≡ i * n + (n - 1 - b)
 mirror-row n i b h = mirror-is n (i * n + b) ∙ rw (flat-row n i b h, flat-column n i b h)

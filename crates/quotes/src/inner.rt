@@ -15,9 +15,15 @@ ghost use Prim.Native.Nat.{_+_, _-_, _*_, _≤_, _<_};
 ghost use Rattle.basics.specs.Domain.{most};
 ghost use Rattle.config.specs.Inner.{Valid};
 ghost use Rattle.quotes.specs.Quotes.{overDomain, badQuote, onGrid, inTicks, offTick, checkQuote, spreadOf, halfTicks};
-ghost use Rattle.quotes.specs.Inner.{Accepted};
+ghost use Rattle.quotes.specs.Inner.{Accepted, InLevel, HasLevel};
 ghost use Rattle.quotes.specs.States.{lowerBucket, bucketOf, mirrorOf, placeOf};
 ghost use Rattle.quotes.specs.Neighbours.{paired, neighboursOf};
+
+// The states of one spread: the spread in ticks and the first of them.
+pub struct Level {
+    pub spread: u64,
+    pub first: usize,
+}
 
 fn is_over(q: TopOfBook) -> bool
     ensures { λ r. ⌜ r ≡ overDomain q ⌝ }
@@ -118,13 +124,39 @@ pub fn place_of(config: MicroPriceConfig, q: TopOfBook) -> Place
     })
 }
 
+// The mirror of a state of the spread level that begins at `first`.
+pub fn mirror_in(n: usize, first: usize, state: usize) -> usize
+    requires { ⌜ InLevel n first state × (n ≤ 256) × (state < 256) ⌝ }
+    ensures { λ r. ⌜ r ≡ mirrorOf n state ⌝ }
+{
+    first + (n - 1 - (state - first))
+}
+
+// The spread level of the state after `state`, whose own is `level`.
+pub fn level_after(n: usize, level: Level, state: usize) -> Level
+    requires { ⌜ HasLevel n level state × (n ≤ 256) × (state < 256) ⌝ }
+    ensures { λ r. ⌜ HasLevel n r (state + 1) ⌝ }
+{
+    if state + 1 < level.first + n {
+        return level;
+    }
+    Level {
+        spread: level.spread + 1,
+        first: level.first + n,
+    }
+}
+
+// The mirror of any state: its spread level is found by adding n, without a division.
 pub fn mirror_of(n: u64, state: usize) -> usize
     requires { ⌜ (1 ≤ n) × (n ≤ 256) × (state < 256) ⌝ }
     ensures { λ r. ⌜ r ≡ mirrorOf n state ⌝ }
 {
     let w = n as usize;
-    let bucket = state % w;
-    state - bucket + (w - 1 - bucket)
+    let mut first: usize = 0;
+    while first + w <= state {
+        first += w;
+    }
+    mirror_in(w, first, state)
 }
 
 fn pair_of(config: MicroPriceConfig, p: TopOfBook, q: TopOfBook) -> Neighbours

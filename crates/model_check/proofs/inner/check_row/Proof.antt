@@ -14,24 +14,24 @@ read-row-requires-2 c κs =
     let p = at-start .pre in
     omega (
       arith,
-      c .before .mirror-of .ensures,
-      mirror-below (a .config .«imbalance_buckets») (a .i) (omega (arith, p .0 .n-least)) (a .config .«spread_states») (p .2),
+      c .before .mirror-in .ensures,
+      mirror-below (a .config .«imbalance_buckets») (a .i) (omega (arith, p .0 .n-least)) (a .config .«spread_states») (p .3),
     )
 
 returns : tie.Need-returns
 returns c =
-    let at-mirror-of : tie.After-mirror-of = search in
+    let at-mirror-in : tie.After-mirror-in = search in
     let at-start : tie.Start = search in
     let a = at-start .args in
-    row-refused (a .config) (a .model .now) (a .i) (at-mirror-of .mirror-of .ensures) (c .before .before .before .read-row .ensures)
+    row-refused (a .config) (a .model .now) (a .i) (at-mirror-in .mirror-in .ensures) (c .before .before .before .read-row .ensures)
     (c .before .before .read-row2 .ensures) (c .before .row-fine .ensures) (c .if1 .taken)
 
 returns-2 : tie.Need-returns-2
 returns-2 c =
-    let at-mirror-of : tie.After-mirror-of = search in
+    let at-mirror-in : tie.After-mirror-in = search in
     let at-start : tie.Start = search in
     let a = at-start .args in
-    row-passed (a .config) (a .model .now) (a .i) (at-mirror-of .mirror-of .ensures) (c .before .before .before .read-row .ensures)
+    row-passed (a .config) (a .model .now) (a .i) (at-mirror-in .mirror-in .ensures) (c .before .before .before .read-row .ensures)
     (c .before .before .read-row2 .ensures) (c .before .row-fine .ensures) (c .if1 .left)
 
 pub check-row-spec : {M : Type 1} → statement M
