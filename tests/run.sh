@@ -62,6 +62,8 @@ test_of environment tests/environment/run.sh
 test_of environment_can_fail tests/environment/can_fail.sh
 test_of example tests/example/run.sh
 test_of example_can_fail tests/example/can_fail.sh
+test_of divisions tests/divisions/run.sh
+test_of divisions_can_fail tests/divisions/can_fail.sh
 test_of bindings bindings
 test_of evening python3 tests/evening/run.py
 test_of lent tests/lent/run.sh

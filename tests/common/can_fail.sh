@@ -1,6 +1,6 @@
 # shellcheck shell=sh disable=SC2034,SC2154
-# What the scripts can_fail.sh of tests/header, tests/environment, tests/example and tests/lent share. A script sets `name`
-# and `files`, those that its run.sh reads, and sources this. It ends with `exit $missed`.
+# What the scripts can_fail.sh of tests/header, tests/environment, tests/example, tests/lent and tests/divisions share. A script sets
+# `name` and `files`, those that its run.sh reads, and sources this. It ends with `exit $missed`.
 here=$(cd "$(dirname "$0")" && pwd)
 root=$(cd "$here/../.." && pwd)
 work=$(mktemp -d)

@@ -1,5 +1,5 @@
 # shellcheck shell=sh disable=SC2154
-# What the scripts run.sh of tests/header, tests/environment and tests/example share. A script sets `name` and
+# What the scripts run.sh of tests/header, tests/environment, tests/example and tests/divisions share. A script sets `name` and
 # sources this. Its argument is [TREE], this repository or a copy of the files that it reads; the archive is the tree's
 # target/staticlib/libmicro_price.a, or the one that MICRO_PRICE_LIB names. It has `work` for files of its own, and says on standard
 # error what it finds.
