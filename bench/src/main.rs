@@ -23,6 +23,8 @@ const RUNS: usize = 31;
 const SLOW_RUNS: usize = 15;
 /// Quotes of a run.
 const QUOTES: usize = 20_000;
+/// Model checks of a run.
+const CHECKS: usize = 20;
 
 fn config(buckets: u64, spreads: u64) -> Config {
     Config {
@@ -179,14 +181,57 @@ fn same_signal(
         && source_number(original.source) == source
 }
 
+/// The original's model of `counts`.
+fn fitted(counts: &plain::Calibrator) -> MicroPriceModel {
+    let original = rust::calibrator_of(&tables(counts)).expect("tables that the Rust takes");
+    match original.fit() {
+        Ok(MicroPriceFit::Calibrated(model)) => model,
+        other => panic!("no model: {other:?}"),
+    }
+}
+
+/// The check of the model fitted on `counts`. The original checks a model where its serde reads one.
+fn models(counts: &plain::Calibrator) {
+    let config = counts.config;
+    let text = serde_json::to_string(&fitted(counts)).expect("JSON");
+    let rows = counts.fit().expect("a model of plain Rust");
+    let (words, table) = (config.words(), port::table(&rows));
+    let mut row = 0;
+    let mut runs = Vec::new();
+    for run in 0..=RUNS {
+        let times = timed(
+            run,
+            [
+                &mut || {
+                    for _ in 0..CHECKS {
+                        let answer = port::check_model(&words, black_box(&table), &mut row);
+                        assert_eq!(answer, 0);
+                    }
+                },
+                &mut || {
+                    for _ in 0..CHECKS {
+                        let read = serde_json::from_str::<MicroPriceModel>(black_box(&text));
+                        assert!(read.is_ok());
+                    }
+                },
+                &mut || {
+                    for _ in 0..CHECKS {
+                        assert_eq!(plain::check_model(&config, black_box(&rows)), Ok(()));
+                    }
+                },
+            ],
+        );
+        runs.push(times.map(|time| time / CHECKS as f64));
+    }
+    let (states, spreads) = (config.states(), config.spreads);
+    let what = format!("a model check, N = {states}, s = {spreads}");
+    print_line(&what, &runs[1..], [None, None]);
+}
+
 /// A signal of the model fitted on `counts`.
 fn signals(counts: &plain::Calibrator) {
     let config = counts.config;
-    let original = rust::calibrator_of(&tables(counts)).expect("tables that the Rust takes");
-    let model: MicroPriceModel = match original.fit() {
-        Ok(MicroPriceFit::Calibrated(model)) => model,
-        other => panic!("no model: {other:?}"),
-    };
+    let model = fitted(counts);
     let rows = counts.fit().expect("a model of plain Rust");
     let (words, table) = (config.words(), port::table(&rows));
     let mut stream = Stream::new(config, 2);
@@ -318,6 +363,11 @@ fn main() {
     for counts in &counts {
         signals(counts);
     }
+    for counts in &counts {
+        models(counts);
+    }
+    let many_spreads = config(3, 85);
+    models(&counted(many_spreads, Stream::new(many_spreads, 3)));
     let one_sided = configs.map(|config| counted(config, Stream::one_sided(config, 4)));
     for counts in &counts {
         fits("a fit", counts, None, RUNS);

@@ -503,6 +503,50 @@ impl Calibrator {
     }
 }
 
+/// Half the spread of a state.
+fn half_spread(c: &Config, spread: u64) -> f64 {
+    (c.tick * spread) as f64 / 2.0
+}
+
+fn is_fine(c: &Config, state: usize, row: &Row, other: &Row) -> bool {
+    let buckets = c.buckets as usize;
+    let half = half_spread(c, (state / buckets + 1) as u64);
+    let plain = |v: f64| v.is_finite() && !(v == 0.0 && v.is_sign_negative());
+    let size = row.adjustment.abs();
+    let status = match row.status {
+        0 => size <= half,
+        1 | 2 => row.share == 1.0 && row.adjustment == 0.0,
+        3 => size > half,
+        _ => false,
+    };
+    row.bucket == (state % buckets + 1) as u64
+        && row.spread == (state / buckets + 1) as u64
+        && plain(row.first)
+        && plain(row.adjustment)
+        && plain(row.share)
+        && (0.0..=1.0).contains(&row.share)
+        && status
+        && row.status == other.status
+        && row.observations == other.observations
+        && row.adjustment + other.adjustment == 0.0
+        && row.first + other.first == 0.0
+}
+
+/// Refusals 1, 7 and 13.
+#[inline(never)]
+pub fn check_model(c: &Config, model: &[Row]) -> Result<(), Refusal> {
+    if model.len() != states(c)? {
+        return Err(7);
+    }
+    let other = |state| &model[mirror(c.buckets as usize, state)];
+    let fine = |(state, row)| is_fine(c, state, row, other(state));
+    if model.iter().enumerate().all(fine) {
+        Ok(())
+    } else {
+        Err(13)
+    }
+}
+
 /// Time, bid + ask, adjustment, source.
 pub type Signal = (u64, u64, f64, u64);
 
@@ -518,7 +562,7 @@ pub fn signal(c: &Config, model: &[Row], q: &Quote) -> Result<Signal, Refusal> {
     }
     let row = &model[place(c, spread, q).0];
     match row.status {
-        0 if row.adjustment.abs() <= (c.tick * u64::from(spread)) as f64 / 2.0 => {
+        0 if row.adjustment.abs() <= half_spread(c, u64::from(spread)) => {
             Ok((q.time, q.bid + q.ask, row.adjustment, 0))
         }
         1..=3 => Ok((q.time, q.bid + q.ask, 0.0, row.status)),

@@ -150,6 +150,20 @@ pub fn signal(
     }
 }
 
+#[inline(always)]
+pub fn check_model(config: &[u64], model: &[u64], row: &mut u64) -> u64 {
+    // SAFETY: as above.
+    unsafe {
+        sys::micro_price_check_model(
+            config.as_ptr(),
+            config.len(),
+            model.as_ptr(),
+            model.len(),
+            row,
+        )
+    }
+}
+
 /// The words of a model table.
 pub fn table(rows: &[Row]) -> Vec<u64> {
     rows.iter()
