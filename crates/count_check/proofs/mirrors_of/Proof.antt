@@ -24,16 +24,13 @@ loop-holds c =
     let a = c .before in
     (refl, below-none _, level-start (a .args .config .«imbalance_buckets») (omega (arith, a .pre .n-least)))
 
-mirror-in-requires : tie.Need-mirror-in-requires Inv-loop μ-loop
-mirror-in-requires c κs =
-    let at-start : tie.Start Inv-loop μ-loop = search in
-    let v = at-start .pre in
-    (c .before .loop .inv .2 .within, v .n-most, omega (arith, v .states-most, c .before .before .state-count .ensures))
-
--- the store is inside the array
+-- the state of the walk is a place of the array
 inside : (c : tie.In-loop Inv-loop μ-loop) → c .before .loop .i < 256
 inside c =
     omega (arith, c .loop-test .taken, c .before .before .before .pre .states-most, c .before .before .state-count .ensures)
+
+mirror-in-requires : tie.Need-mirror-in-requires Inv-loop μ-loop
+mirror-in-requires c κs = (c .before .loop .inv .2 .within, c .before .before .before .pre .n-most, inside c)
 
 level-after-requires : tie.Need-level-after-requires Inv-loop μ-loop
 level-after-requires c κs =
