@@ -7,7 +7,7 @@
 #include <string.h>
 #include <time.h>
 
-enum { RUNS = 101, QUOTES = 20000, COUNTED = 2000000, CHECKS = 100, MOST = MICRO_PRICE_MAX_STATES };
+enum { RUNS = 101, QUOTES = 20000, COUNTED = 2000000, IMAGES = 10, CHECKS = 100, MOST = MICRO_PRICE_MAX_STATES };
 
 extern __typeof__(micro_price_new) before_micro_price_new;
 extern __typeof__(micro_price_observe) before_micro_price_observe;
@@ -89,16 +89,18 @@ static void observe(const struct side *side, struct memory *m) {
 }
 
 static void save(const struct side *side, struct memory *m) {
-    expect(side->save(config, MICRO_PRICE_CONFIG_WORDS, m->rec, MICRO_PRICE_RECORD_WORDS, m->stay, MICRO_PRICE_CELLS(states), m->moved,
-                      MICRO_PRICE_CELLS(states), m->move_half_ticks, states, m->image, MICRO_PRICE_IMAGE(states)) == 0,
-           "a save is refused");
+    for (int i = 0; i < IMAGES; i++)
+        expect(side->save(config, MICRO_PRICE_CONFIG_WORDS, m->rec, MICRO_PRICE_RECORD_WORDS, m->stay, MICRO_PRICE_CELLS(states),
+                          m->moved, MICRO_PRICE_CELLS(states), m->move_half_ticks, states, m->image,
+                          MICRO_PRICE_IMAGE(states)) == 0, "a save is refused");
 }
 
 static void restore(const struct side *side, struct memory *m) {
     uint64_t words[MICRO_PRICE_CONFIG_WORDS];
-    expect(side->restore(m->image, MICRO_PRICE_IMAGE(states), words, MICRO_PRICE_CONFIG_WORDS, m->rec, MICRO_PRICE_RECORD_WORDS,
-                         m->stay, MICRO_PRICE_CELLS(states), m->moved, MICRO_PRICE_CELLS(states), m->move_half_ticks, states) == 0,
-           "a restore is refused");
+    for (int i = 0; i < IMAGES; i++)
+        expect(side->restore(m->image, MICRO_PRICE_IMAGE(states), words, MICRO_PRICE_CONFIG_WORDS, m->rec, MICRO_PRICE_RECORD_WORDS,
+                             m->stay, MICRO_PRICE_CELLS(states), m->moved, MICRO_PRICE_CELLS(states), m->move_half_ticks,
+                             states) == 0, "a restore is refused");
 }
 
 static void fit(const struct side *side, struct memory *m) {
@@ -184,8 +186,8 @@ static void lines_of(uint64_t n, uint64_t s) {
         observe(&sides[1], &lent[1]);
     }
     line("a quote", observe, QUOTES, 1);
-    line("save", save, 1, 0);
-    line("restore", restore, 1, 0);
+    line("save", save, IMAGES, 0);
+    line("restore", restore, IMAGES, 0);
     line("a fit", fit, 1, 0);
     line("a model check", check, CHECKS, 0);
 }

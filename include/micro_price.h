@@ -21,14 +21,14 @@
  *   micro_price_validate      16
  *   micro_price_new           80
  *   micro_price_observe       208
- *   micro_price_save          4656
- *   micro_price_restore       4912
+ *   micro_price_save          2608
+ *   micro_price_restore       2864
  *   micro_price_fit_counts    4560
- *   micro_price_check_model   176
+ *   micro_price_check_model   104
  *   micro_price_signal        112
  *   micro_price_window_of     32
- *   micro_price_calibrate     9008
- *   micro_price_replay        5664
+ *   micro_price_calibrate     6928
+ *   micro_price_replay        3616
  *
  * Words:
  *   config   5: tick, imbalance buckets n, spread states s, least observations, largest gap in ms. N = n * s states.
