@@ -33,6 +33,9 @@ must_fail "a remainder in mirror_of" "$here/run.sh" "$work/tree"
 must_fail "a remainder in the machine code of mirror_of" "$work/tree/tests/divisions/mirror.sh"
 refused "a remainder in the table of mirrors" crates/count_check/src/lib.rt 'mirror_in(w, level.first, i)' 'mirror_in(w, i - i % w, i)'
 refused "a remainder in the model check" crates/model_check/src/inner.rt 'usize, level.first, i)' 'usize, i - i % w, i)'
+copy
+rm -r "$work/tree/crates/tally"
+must_fail "a crate whose code is not there" "$here/run.sh" "$work/tree"
 refused "a quotient by a product" $inner '(scaled - 1) / (lighter + heavier)' '(scaled - 1) / ((lighter + heavier) * n) * n'
 refused "a division by the tick less" $inner '    price / config.tick_size' '    ticks_of(config, price)'
 refused "another rule of mirrors" tests/divisions/mirrors.h '(n - 1 - state % n)' '(n - state % n) % n'

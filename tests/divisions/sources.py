@@ -46,7 +46,10 @@ def divisions_in(code):
 
 def faults(tree, crate):
     found = []
-    for name in sorted(glob.glob(os.path.join(tree, "crates", crate, "src", "*.rt"))):
+    names = sorted(glob.glob(os.path.join(tree, "crates", crate, "src", "**", "*.rt"), recursive=True))
+    if not names:
+        yield f"no code of {crate}"
+    for name in names:
         with open(name) as file:
             found += divisions_in(code_of(file.read()))
     print(f"divisions: {crate}: {', '.join(found) or 'none'}")
