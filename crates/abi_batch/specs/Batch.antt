@@ -1,19 +1,19 @@
 -- What the exported evening and replay answer and leave in the memory that they are lent. Words that are not encoded, and of the evening other than five and
--- ten words, are answered with badEncoding and change nothing; else it is the operation's own definition, in numbers.
+-- ten words, are answered with bad_encoding and change nothing; else it is the operation's own definition, in numbers.
 use Rattle.std.specs.Prelude.{ℕ, ◌≡◌, Bool, true, cond, ◌||◌, List, eqb, Float, ℤ, length}
-use Rattle.refusals.specs.Refusals.{number_of, checkNumber}
+use Rattle.refusals.specs.Refusals.{number_of, check_number}
 use Rattle.tally.specs.Rules.{Memory}
 use Rattle.calibrator.specs.Record.{memory}
 use Rattle.calibrator.specs.declared.Previous.{Previous}
 use Rattle.history.specs.Calls.{Call}
-use Rattle.history_replay.specs.Replay.{site, callsFrom, Replay, replayed, replayHistory, past_of, OwnCalls}
+use Rattle.history_replay.specs.Replay.{site, calls_from, Replay, replayed, replay_history, past_of, OwnCalls}
 use Rattle.history_replay.specs.declared.Replayed.{Replayed}
 use Rattle.history_replay.specs.declared.Replayed.TheVariants.{Done, BadEncoding}
 use Rattle.evening.specs.Evening.{EveningOutcome, calibrated}
 use Rattle.evening.specs.declared.Evening.{Evening}
 use Rattle.evening.specs.declared.Evening.TheVariants as Evening
-use Rattle.config.specs.Configuration.{configOf}
-use Rattle.abi_encoding.specs.Encoding.{recordWordsOf, recordOf, rightWords, encoded, badEncoding, Lent, lent, lent_as}
+use Rattle.config.specs.Configuration.{config_of}
+use Rattle.abi_encoding.specs.Encoding.{record_words_of, record_of, right_words, encoded, bad_encoding, Lent, lent, lent_as}
 
 -- ---- the evening: document 01, "An evening's calibration"
 
@@ -28,8 +28,8 @@ pub record LentEvening : Type 0 where
   pub scratch : List Float
   pub invalid : ℕ
 
-abbrev pub lentEvening : ℕ → List ℕ → List ℕ → List ℕ → List ℤ → List ℕ → List Float → ℕ → LentEvening
-lentEvening answer rec stay moved totals model scratch invalid =
+abbrev pub lent_evening : ℕ → List ℕ → List ℕ → List ℕ → List ℤ → List ℕ → List Float → ℕ → LentEvening
+lent_evening answer rec stay moved totals model scratch invalid =
     record {
       answer = answer;
       rec = rec;
@@ -42,35 +42,35 @@ lentEvening answer rec stay moved totals model scratch invalid =
     }
 
 -- a fit's answer, or a refusal before it
-abbrev pub eveningNumber : Evening → ℕ
-eveningNumber (Evening.Fitted d) = checkNumber d.answer
-eveningNumber (Evening.Refused r) = number_of r
+abbrev pub evening_number : Evening → ℕ
+evening_number (Evening.Fitted d) = check_number d.answer
+evening_number (Evening.Refused r) = number_of r
 
 -- the number of invalid quotes is written with a fit's answer, and only then
-abbrev pub invalidAfter : Evening → ℕ → ℕ
-invalidAfter (Evening.Fitted d) invalid = d.invalid
-invalidAfter (Evening.Refused r) invalid = invalid
+abbrev pub invalid_after : Evening → ℕ → ℕ
+invalid_after (Evening.Fitted d) invalid = d.invalid
+invalid_after (Evening.Refused r) invalid = invalid
 
 -- quotes were counted: there is a fit's answer, or a quote stopped the count with 2 or 6
-abbrev pub hasCounted : Evening → Bool
-hasCounted (Evening.Fitted d) = true
-hasCounted (Evening.Refused r) = eqb (number_of r) 2 || eqb (number_of r) 6
+abbrev pub has_counted : Evening → Bool
+has_counted (Evening.Fitted d) = true
+has_counted (Evening.Refused r) = eqb (number_of r) 2 || eqb (number_of r) 6
 
 -- the record is written where quotes were counted, and only then
-abbrev pub recordAfterEvening : Evening → List ℕ → Memory Previous → List ℕ
-recordAfterEvening a w m = cond (hasCounted a) (recordWordsOf m) w
+abbrev pub record_after_evening : Evening → List ℕ → Memory Previous → List ℕ
+record_after_evening a w m = cond (has_counted a) (record_words_of m) w
 
 -- what the evening leaves of the record's words w and of the word for the number of invalid quotes
-abbrev pub ofEvening : List ℕ → ℕ → EveningOutcome → LentEvening
-ofEvening w invalid o =
-    lentEvening (eveningNumber o.answer) (recordAfterEvening o.answer w o.left) o.left.counts.tables.stay o.left.counts.tables.moved
-    o.left.counts.tables.totals o.model o.scratch (invalidAfter o.answer invalid)
+abbrev pub of_evening : List ℕ → ℕ → EveningOutcome → LentEvening
+of_evening w invalid o =
+    lent_evening (evening_number o.answer) (record_after_evening o.answer w o.left) o.left.counts.tables.stay o.left.counts.tables.moved
+    o.left.counts.tables.totals o.model o.scratch (invalid_after o.answer invalid)
 
 -- the record is overwritten: its words may be any
-abbrev pub calibrateWords : List ℕ → List ℕ → List ℕ → List ℕ → List ℤ → List ℕ → ℕ → ℕ → List ℕ → List Float → ℕ → LentEvening
-calibrateWords c w s m t recording start end model scratch invalid =
-    cond (rightWords c w) (ofEvening w invalid (calibrated (configOf c) (memory (recordOf w) s m t) recording start end model scratch))
-    (lentEvening badEncoding w s m t model scratch invalid)
+abbrev pub calibrate_words : List ℕ → List ℕ → List ℕ → List ℕ → List ℤ → List ℕ → ℕ → ℕ → List ℕ → List Float → ℕ → LentEvening
+calibrate_words c w s m t recording start end model scratch invalid =
+    cond (right_words c w) (of_evening w invalid (calibrated (config_of c) (memory (record_of w) s m t) recording start end model scratch))
+    (lent_evening bad_encoding w s m t model scratch invalid)
 
 -- ---- the replay: document 01, "The history"
 
@@ -80,37 +80,37 @@ pub record LentReplay : Type 0 where
   pub room : List ℕ
   pub rest : Lent
 
-abbrev pub lentReplay : List ℕ → List ℕ → Lent → LentReplay
-lentReplay numbers room rest = record { numbers = numbers; room = room; rest = rest }
+abbrev pub lent_replay : List ℕ → List ℕ → Lent → LentReplay
+lent_replay numbers room rest = record { numbers = numbers; room = room; rest = rest }
 
-abbrev pub replayedNumber : Replayed → ℕ
-replayedNumber Done = 0
-replayedNumber BadEncoding = badEncoding
+abbrev pub replayed_number : Replayed → ℕ
+replayed_number Done = 0
+replayed_number BadEncoding = bad_encoding
 
 -- the record is written unless the encoding is bad
-abbrev pub recordAfterReplay : Replayed → List ℕ → Memory Previous → List ℕ
-recordAfterReplay Done w m = recordWordsOf m
-recordAfterReplay BadEncoding w m = w
+abbrev pub record_after_replay : Replayed → List ℕ → Memory Previous → List ℕ
+record_after_replay Done w m = record_words_of m
+record_after_replay BadEncoding w m = w
 
 -- what a replay leaves of the record's words w
-abbrev pub ofReplay : List ℕ → Replay → LentReplay
-ofReplay w r =
-    lentReplay r.numbers r.after.room
-    (lent_as (replayedNumber r.answer) (recordAfterReplay r.answer w r.after.memory) r.after.memory)
+abbrev pub of_replay : List ℕ → Replay → LentReplay
+of_replay w r =
+    lent_replay r.numbers r.after.room
+    (lent_as (replayed_number r.answer) (record_after_replay r.answer w r.after.memory) r.after.memory)
 
 module _ (c w s m : List ℕ) (t : List ℤ) (calls room numbers : List ℕ) where
-  abbrev pub replayWords : LentReplay
-  replayWords =
-      cond (encoded c w) (ofReplay w (replayed (configOf c) (site (recordOf w) s m t room) calls numbers))
-      (lentReplay numbers room (lent badEncoding w s m t))
+  abbrev pub replay_words : LentReplay
+  replay_words =
+      cond (encoded c w) (of_replay w (replayed (config_of c) (site (record_of w) s m t room) calls numbers))
+      (lent_replay numbers room (lent bad_encoding w s m t))
 
   -- what the history of the calls says, after those before them
-  abbrev pub replayHistoryWords : List Call → LentReplay
-  replayHistoryWords before =
-      let d = configOf c in
-      ofReplay w (replayHistory d (past_of d before) room calls (callsFrom d calls 0 (length numbers) (site (recordOf w) s m t room)))
+  abbrev pub replay_history_words : List Call → LentReplay
+  replay_history_words before =
+      let d = config_of c in
+      of_replay w (replay_history d (past_of d before) room calls (calls_from d calls 0 (length numbers) (site (record_of w) s m t room)))
 
   -- a replay is the run of its calls; and of a calibrator's own calls, what their history says
   pub record PromisedWords (r : LentReplay) : Type 0 where
-    pub run_is : r ≡ replayWords
-    pub history-is : encoded c w ≡ true → (o : OwnCalls (configOf c) (site (recordOf w) s m t room) calls numbers) → r ≡ replayHistoryWords o.before
+    pub run_is : r ≡ replay_words
+    pub history-is : encoded c w ≡ true → (o : OwnCalls (config_of c) (site (record_of w) s m t room) calls numbers) → r ≡ replay_history_words o.before

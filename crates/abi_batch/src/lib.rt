@@ -1,10 +1,12 @@
 // Document 01's evening and the replay of a journal for callers in C and Rust: numbers and lent slices alone. include/micro_price.h says how they are called.
 // They are apart from `abi_counting`, so that the counting of a quote has one caller in each archive and is compiled into it.
+#![tactic(auto)]
+
 ghost use Rattle.std.specs.Prelude.{◌≡◌, [], length};
 ghost use Rattle.basics.specs.Loan.{given, final};
 ghost use Rattle.calibrator.specs.Record.{memory};
-ghost use Rattle.abi_encoding.specs.Encoding.{recordLength, lent};
-ghost use Rattle.abi_batch.specs.Batch.{lentEvening, eveningNumber, invalidAfter, hasCounted, recordAfterEvening, calibrateWords, lentReplay, PromisedWords};
+ghost use Rattle.abi_encoding.specs.Encoding.{record_length, lent};
+ghost use Rattle.abi_batch.specs.Batch.{lent_evening, evening_number, invalid_after, has_counted, record_after_evening, calibrate_words, lent_replay, PromisedWords};
 
 use abi_encoding::BAD_ENCODING;
 use calibrator::Record;
@@ -13,7 +15,7 @@ use history_replay::Replayed;
 
 // An evening's answer as a number; with a fit's answer the number of invalid quotes is written.
 fn put_invalid(answer: Evening, invalid: &mut u64) -> u64
-    ensures { (result ≡ eveningNumber answer) × (final invalid ≡ invalidAfter answer (given invalid)) }
+    ensures { (result ≡ evening_number answer) × (final invalid ≡ invalid_after answer (given invalid)) }
 {
     match answer {
         Evening::Fitted(d) => {
@@ -27,7 +29,7 @@ fn put_invalid(answer: Evening, invalid: &mut u64) -> u64
 
 // Whether quotes were counted: there is a fit's answer, or a quote stopped the count.
 fn has_counted(answer: Evening) -> bool
-    ensures { result ≡ hasCounted answer }
+    ensures { result ≡ has_counted answer }
 {
     match answer {
         Evening::Fitted(_) => true,
@@ -40,8 +42,8 @@ fn has_counted(answer: Evening) -> bool
 
 // Writes the record where quotes were counted. Its caller has as many words.
 fn put_counted(rec: &mut [u64], answer: Evening, next: Record)
-    requires { length rec.old ≡ recordLength }
-    ensures { final rec ≡ recordAfterEvening answer (given rec) (memory next [] [] []) }
+    requires { length rec.old ≡ record_length }
+    ensures { final rec ≡ record_after_evening answer (given rec) (memory next [] [] []) }
 {
     if has_counted(answer) {
         abi_encoding::put_record(rec, next);
@@ -64,8 +66,8 @@ pub extern "C" fn micro_price_calibrate(
     model: &mut [u64],
     invalid: &mut u64,
 ) -> u64
-    ensures { lentEvening result (final rec) (final stay) (final moved) (final move_half_ticks) (final model) (final scratch) (final invalid)
-        ≡ calibrateWords (given config) (given rec) (given stay) (given moved) (given move_half_ticks) (given recording) start end (given model) (given scratch) (given invalid) }
+    ensures { lent_evening result (final rec) (final stay) (final moved) (final move_half_ticks) (final model) (final scratch) (final invalid)
+        ≡ calibrate_words (given config) (given rec) (given stay) (given moved) (given move_half_ticks) (given recording) start end (given model) (given scratch) (given invalid) }
 {
     if !abi_encoding::right_words(config, rec) {
         return BAD_ENCODING;
@@ -100,7 +102,7 @@ pub extern "C" fn micro_price_replay(
     answers: &mut [u64],
 ) -> u64
     ensures { PromisedWords (given config) (given rec) (given stay) (given moved) (given move_half_ticks) (given calls) (given room) (given answers)
-        (lentReplay (final answers) (final room) (lent result (final rec) (final stay) (final moved) (final move_half_ticks))) }
+        (lent_replay (final answers) (final room) (lent result (final rec) (final stay) (final moved) (final move_half_ticks))) }
 {
     if !abi_encoding::is_encoded(config, rec) {
         return BAD_ENCODING;

@@ -14,84 +14,84 @@ use Rattle.refusals.specs.declared.Check.{Check}
 use Rattle.refusals.specs.declared.Check.TheVariants.{Fine, Refused}
 use Rattle.refusals.proofs.Numbers.{zero-fine}
 use Rattle.refusals.proofs.Refusals.{if-fine, first_fine}
-use Rattle.config.specs.Configuration.{valid, checkConfig, isConfig, configOf}
+use Rattle.config.specs.Configuration.{valid, check_config, is_config, config_of}
 use Rattle.config.specs.declared.MicroPriceConfig.{MicroPriceConfig}
 use Rattle.tally.specs.Rules.{Memory}
 use Rattle.calibrator.specs.Record.{memory, answered}
-use Rattle.calibrator.specs.Observe.{fresh, checkMemory}
+use Rattle.calibrator.specs.Observe.{fresh, check_memory}
 use Rattle.calibrator.specs.declared.Previous.{Previous}
-use Rattle.abi_encoding.specs.Encoding.{recordLength, recordOf, rightWords, badEncoding, lent}
-use Rattle.history.specs.Calls.{newPast, run, OwnImages, ConfigWords}
+use Rattle.abi_encoding.specs.Encoding.{record_length, record_of, right_words, bad_encoding, lent}
+use Rattle.history.specs.Calls.{new_past, run, OwnImages, ConfigWords}
 use Rattle.history.specs.Demand.{left}
-use Rattle.model_signals.specs.Signal.{signalOf}
-use Rattle.fit.specs.Fit.{fitCounts}
+use Rattle.model_signals.specs.Signal.{signal_of}
+use Rattle.fit.specs.Fit.{fit_counts}
 use Rattle.history_claims.specs.Models.{Model, Demand3Whole}
 use Rattle.history_claims.proofs.Claims.{demand-3-whole}
-use Rattle.abi_counting.specs.Counting.{ofOutcome, newWords}
-use Rattle.abi_fit.specs.FitWindow.{LentFit, lentFit, ofFit}
-use Rattle.abi_models.specs.Models.{signalLength, lentSignal, ofSignalled}
-use Rattle.abi_claims.specs.WordCalls.{WordMemory, lentMemory, memoryInWords, WordCall, historyCalls, WordsRan, runWords, answersInWords, historyInWords}
-use Rattle.abi_claims.specs.Demand.{ranFromNew, fitInWords, Demand3Words}
+use Rattle.abi_counting.specs.Counting.{of_outcome, new_words}
+use Rattle.abi_fit.specs.FitWindow.{LentFit, lent_fit, of_fit}
+use Rattle.abi_models.specs.Models.{signal_length, lent_signal, of_signalled}
+use Rattle.abi_claims.specs.WordCalls.{WordMemory, lent_memory, memory_in_words, WordCall, history_calls, WordsRan, run_words, answers_in_words, history_in_words}
+use Rattle.abi_claims.specs.Demand.{ran_from_new, fit_in_words, Demand3Words}
 use Rattle.abi_claims.proofs.InWords.{HasKinds, kinds-left, words-encoded, memory-from-words, run-words}
 
 -- ---- micro_price_new that answers 0
 
 record NewInWords (c w s m : List ℕ) (t : List ℤ) : Type 0 where
-  config : isConfig c ≡ true
-  valid-is : valid (configOf c) ≡ true
-  leaves : lentMemory (newWords c w s m t) ≡ memoryInWords (fresh (configOf c))
+  config : is_config c ≡ true
+  valid-is : valid (config_of c) ≡ true
+  leaves : lent_memory (new_words c w s m t) ≡ memory_in_words (fresh (config_of c))
 
 module _ (c w s m : List ℕ) (t : List ℤ) where
   abbrev d : MicroPriceConfig
-  d = configOf c
+  d = config_of c
 
   abbrev before : Memory Previous
-  before = memory (recordOf w) s m t
+  before = memory (record_of w) s m t
 
-  new-in-words : (newWords c w s m t).answer ≡ 0 → NewInWords c w s m t
-  new-in-words = go (rightWords c w) refl (checkMemory d before) refl
+  new-in-words : (new_words c w s m t).answer ≡ 0 → NewInWords c w s m t
+  new-in-words = go (right_words c w) refl (check_memory d before) refl
     where
-      go : (b : Bool) → rightWords c w ≡ b → (k : Check) → checkMemory d before ≡ k
-          → (cond b (ofOutcome w (answered k before (fresh d))) (lent badEncoding w s m t)).answer ≡ 0 → NewInWords c w s m t
+      go : (b : Bool) → right_words c w ≡ b → (k : Check) → check_memory d before ≡ k
+          → (cond b (of_outcome w (answered k before (fresh d))) (lent bad_encoding w s m t)).answer ≡ 0 → NewInWords c w s m t
       go false long k enough e = absurd (zero-not-one cc)
       go true long (Refused r) enough e = let none : Refused r ≡ Fine = zero-fine (Refused r) e in absurd (zero-not-one cc)
       go true long Fine enough e =
           record {
-            config = (both (isConfig c) (eqb (length w) recordLength) long).0;
-            valid-is = not-false _ (if-fine (not (valid d)) 1 refl (first_fine (checkConfig d) _ enough).0);
-            leaves = λ i. lentMemory (cond (long i) (ofOutcome w (answered (enough i) before (fresh d))) (lent badEncoding w s m t));
+            config = (both (is_config c) (eqb (length w) record_length) long).0;
+            valid-is = not-false _ (if-fine (not (valid d)) 1 refl (first_fine (check_config d) _ enough).0);
+            leaves = λ i. lent_memory (cond (long i) (of_outcome w (answered (enough i) before (fresh d))) (lent bad_encoding w s m t));
           }
 
   -- ---- the list
 
-  module _ (new : (newWords c w s m t).answer ≡ 0) (words : ConfigWords d) (ks : List WordCall) (own : OwnImages d (newPast d) (historyCalls ks)) where
+  module _ (new : (new_words c w s m t).answer ≡ 0) (words : ConfigWords d) (ks : List WordCall) (own : OwnImages d (new_past d) (history_calls ks)) where
     made : NewInWords c w s m t
     made = new-in-words new
 
-    whole : Demand3Whole d (historyCalls ks)
-    whole = demand-3-whole d made.valid-is words (historyCalls ks) own
+    whole : Demand3Whole d (history_calls ks)
+    whole = demand-3-whole d made.valid-is words (history_calls ks) own
 
     -- what the operations leave, in words
-    ran : ranFromNew c w s m t ks
-        ≡ record { answers = answersInWords ks (run d (fresh d) (historyCalls ks)).answers; left = memoryInWords (left d (historyCalls ks)) }
-    ran = ap (λ (h : WordMemory). runWords c h ks) made.leaves ∙ run-words c made.config ks (fresh d) refl
+    ran : ran_from_new c w s m t ks
+        ≡ record { answers = answers_in_words ks (run d (fresh d) (history_calls ks)).answers; left = memory_in_words (left d (history_calls ks)) }
+    ran = ap (λ (h : WordMemory). run_words c h ks) made.leaves ∙ run-words c made.config ks (fresh d) refl
 
-    pub words-history : ranFromNew c w s m t ks ≡ historyInWords c ks
-    words-history = ran ∙ (λ i. record { answers = answersInWords ks (whole.history.answers i); left = memoryInWords (whole.history.memory i) })
+    pub words-history : ran_from_new c w s m t ks ≡ history_in_words c ks
+    words-history = ran ∙ (λ i. record { answers = answers_in_words ks (whole.history.answers i); left = memory_in_words (whole.history.memory i) })
 
     -- ---- the fit after it
 
     abbrev after : WordMemory
-    after = (ranFromNew c w s m t ks).left
+    after = (ran_from_new c w s m t ks).left
 
-    fit_is : (model : List ℕ) (scratch : List Float) → fitInWords c after model scratch ≡ ofFit (fitCounts d (left d (historyCalls ks)) model scratch)
+    fit_is : (model : List ℕ) (scratch : List Float) → fit_in_words c after model scratch ≡ of_fit (fit_counts d (left d (history_calls ks)) model scratch)
     fit_is model scratch =
-        ap (λ (r : WordsRan). fitInWords c r.left model scratch) ran
-        ∙ (λ i. cond (words-encoded c made.config (left d (historyCalls ks)) kinds i)
-        (ofFit (fitCounts d (memory-from-words c made.config (left d (historyCalls ks)) kinds i) model scratch)) (lentFit badEncoding model scratch))
+        ap (λ (r : WordsRan). fit_in_words c r.left model scratch) ran
+        ∙ (λ i. cond (words-encoded c made.config (left d (history_calls ks)) kinds i)
+        (of_fit (fit_counts d (memory-from-words c made.config (left d (history_calls ks)) kinds i) model scratch)) (lent_fit bad_encoding model scratch))
       where
-        kinds : HasKinds d (left d (historyCalls ks))
-        kinds = kinds-left d (historyCalls ks) (fresh d) refl
+        kinds : HasKinds d (left d (history_calls ks))
+        kinds = kinds-left d (history_calls ks) (fresh d) refl
 
     pub demand-3-words : Demand3Words c w s m t ks
     demand-3-words =
@@ -101,11 +101,11 @@ module _ (c w s m : List ℕ) (t : List ℤ) where
           fit_is = fit_is;
           model =
               λ model scratch zero_is.
-              let f = fitCounts d (left d (historyCalls ks)) model scratch in
-              let is : fitInWords c after model scratch ≡ ofFit f = fit_is model scratch in
+              let f = fit_counts d (left d (history_calls ks)) model scratch in
+              let is : fit_in_words c after model scratch ≡ of_fit f = fit_is model scratch in
               subst (λ (x : LentFit). Model d x.model) (sym is)
               (whole.model model scratch (zero-fine f.answer (ap (λ (x : LentFit). x.answer) (sym is) ∙ zero_is)));
           signal-is =
               λ model q out row long.
-              λ i. cond (made.config i && eq-eqb (length out) signalLength long i) (ofSignalled (signalOf d model q) out row) (lentSignal badEncoding out row);
+              λ i. cond (made.config i && eq-eqb (length out) signal_length long i) (of_signalled (signal_of d model q) out row) (lent_signal bad_encoding out row);
         }

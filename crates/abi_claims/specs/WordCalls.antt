@@ -1,16 +1,16 @@
 -- Lists of micro_price_observe, _save and _restore on one calibrator, in words: document 01, "The history". Each call is what its contract says of it.
 use Rattle.std.specs.Prelude.{ℕ, Bool, true, cond, List, [], ◌∷◌, map, eqb, ℤ}
-use Rattle.refusals.specs.Refusals.{checkNumber}
+use Rattle.refusals.specs.Refusals.{check_number}
 use Rattle.quotes.specs.declared.TopOfBook.{TopOfBook}
 use Rattle.tally.specs.Rules.{Memory}
 use Rattle.calibrator.specs.Record.{memory}
 use Rattle.calibrator.specs.declared.Previous.{Previous}
 use Rattle.recording.specs.Recording.{filter}
-use Rattle.config.specs.Configuration.{configOf}
-use Rattle.abi_encoding.specs.Encoding.{recordOf, recordWordsOf, rightWords, badEncoding, Lent}
-use Rattle.history.specs.Calls.{Call, quote, save, restore, Answer, observes, saves, restores, historyMemory, newPast, historyRun}
-use Rattle.abi_counting.specs.Counting.{observeWords}
-use Rattle.abi_image.specs.Images.{LentOut, ofSaved, saveWords, restoredNumber, configAfter, restoreWords}
+use Rattle.config.specs.Configuration.{config_of}
+use Rattle.abi_encoding.specs.Encoding.{record_of, record_words_of, right_words, bad_encoding, Lent}
+use Rattle.history.specs.Calls.{Call, quote, save, restore, Answer, observes, saves, restores, history_memory, new_past, history_run}
+use Rattle.abi_counting.specs.Counting.{observe_words}
+use Rattle.abi_image.specs.Images.{LentOut, of_saved, save_words, restored_number, config_after, restore_words}
 
 -- ---- the calls
 
@@ -22,13 +22,13 @@ pub record WordMemory : Type 0 where
   pub totals : List ℤ
 
 -- those that an operation leaves, and those of a memory
-abbrev pub lentMemory : Lent → WordMemory
-lentMemory l = record { rec = l.rec; stay = l.stay; moved = l.moved; totals = l.totals }
+abbrev pub lent_memory : Lent → WordMemory
+lent_memory l = record { rec = l.rec; stay = l.stay; moved = l.moved; totals = l.totals }
 
-abbrev pub memoryInWords : Memory Previous → WordMemory
-memoryInWords m =
+abbrev pub memory_in_words : Memory Previous → WordMemory
+memory_in_words m =
     record {
-      rec = recordWordsOf m;
+      rec = record_words_of m;
       stay = m.counts.tables.stay;
       moved = m.counts.tables.moved;
       totals = m.counts.tables.totals;
@@ -42,9 +42,9 @@ pub data WordCall : Type 0 where
 
 -- the number; of a save with its output after it, of a restore with the configuration's words after it
 pub data WordAnswer : Type 0 where
-  observeAnswer : ℕ → WordAnswer
-  saveAnswer : LentOut → WordAnswer
-  restoreAnswer : ℕ → List ℕ → WordAnswer
+  observe_answer : ℕ → WordAnswer
+  save_answer : LentOut → WordAnswer
+  restore_answer : ℕ → List ℕ → WordAnswer
 
 -- ---- the operations on a caller's memory, under a configuration's words c
 
@@ -53,75 +53,75 @@ pub record WordsActed : Type 0 where
   pub left : WordMemory
 
 -- memory that a restore fills is the calibrator's from then on; a refused one leaves what it is lent (`restore-unchanged` of `abi_image`)
-abbrev pub actWords : List ℕ → WordMemory → WordCall → WordsActed
-actWords c h (observing q) =
-    let l = observeWords c h.rec h.stay h.moved h.totals q in
-    record { answer = observeAnswer l.answer; left = lentMemory l }
-actWords c h (saving out) =
-    record { answer = saveAnswer (saveWords c h.rec h.stay h.moved h.totals out); left = h }
-actWords c h (restoring b d l) =
-    let t = restoreWords b d l.rec l.stay l.moved l.totals in
-    record { answer = restoreAnswer t.rest.answer t.config; left = cond (eqb t.rest.answer 0) (lentMemory t.rest) h }
+abbrev pub act_words : List ℕ → WordMemory → WordCall → WordsActed
+act_words c h (observing q) =
+    let l = observe_words c h.rec h.stay h.moved h.totals q in
+    record { answer = observe_answer l.answer; left = lent_memory l }
+act_words c h (saving out) =
+    record { answer = save_answer (save_words c h.rec h.stay h.moved h.totals out); left = h }
+act_words c h (restoring b d l) =
+    let t = restore_words b d l.rec l.stay l.moved l.totals in
+    record { answer = restore_answer t.rest.answer t.config; left = cond (eqb t.rest.answer 0) (lent_memory t.rest) h }
 
 pub record WordsRan : Type 0 where
   pub answers : List WordAnswer
   pub left : WordMemory
 
-abbrev pub runWords : List ℕ → WordMemory → List WordCall → WordsRan
-runWords c h [] = record { answers = []; left = h }
-runWords c h (k ∷ ks) =
-    let a = actWords c h k in
-    let r = runWords c a.left ks in
+abbrev pub run_words : List ℕ → WordMemory → List WordCall → WordsRan
+run_words c h [] = record { answers = []; left = h }
+run_words c h (k ∷ ks) =
+    let a = act_words c h k in
+    let r = run_words c a.left ks in
     record { answers = a.answer ∷ r.answers; left = r.left }
 
 -- ---- the same as calls of the history
 
--- a restore that is lent words of other lengths is answered with badEncoding, and is none
-abbrev pub isMade : WordCall → Bool
-isMade (observing q) = true
-isMade (saving out) = true
-isMade (restoring b d l) = rightWords d l.rec
+-- a restore that is lent words of other lengths is answered with bad_encoding, and is none
+abbrev pub is_made : WordCall → Bool
+is_made (observing q) = true
+is_made (saving out) = true
+is_made (restoring b d l) = right_words d l.rec
 
 abbrev pub call_of : WordCall → Call
 call_of (observing q) = quote q
 call_of (saving out) = save out
-call_of (restoring b d l) = restore b (memory (recordOf l.rec) l.stay l.moved l.totals)
+call_of (restoring b d l) = restore b (memory (record_of l.rec) l.stay l.moved l.totals)
 
-abbrev pub historyCalls : List WordCall → List Call
-historyCalls ks = map call_of (filter isMade ks)
+abbrev pub history_calls : List WordCall → List Call
+history_calls ks = map call_of (filter is_made ks)
 
 -- ---- what the history says, in words
 
-abbrev pub configLent : WordCall → List ℕ
-configLent (observing q) = []
-configLent (saving out) = []
-configLent (restoring b d l) = d
+abbrev pub config_lent : WordCall → List ℕ
+config_lent (observing q) = []
+config_lent (saving out) = []
+config_lent (restoring b d l) = d
 
-abbrev pub answerInWords : WordCall → Answer → WordAnswer
-answerInWords k (observes a) = observeAnswer (checkNumber a)
-answerInWords k (saves s) = saveAnswer (ofSaved s)
-answerInWords k (restores r) = restoreAnswer (restoredNumber r) (configAfter r (configLent k))
+abbrev pub answer_in_words : WordCall → Answer → WordAnswer
+answer_in_words k (observes a) = observe_answer (check_number a)
+answer_in_words k (saves s) = save_answer (of_saved s)
+answer_in_words k (restores r) = restore_answer (restored_number r) (config_after r (config_lent k))
 
--- badEncoding, and the configuration's words as they came
-abbrev pub notMade : WordCall → WordAnswer
-notMade k = restoreAnswer badEncoding (configLent k)
+-- bad_encoding, and the configuration's words as they came
+abbrev pub not_made : WordCall → WordAnswer
+not_made k = restore_answer bad_encoding (config_lent k)
 
 -- of the answers to the calls that are made, the first is k's; then come those of later calls
-abbrev pub firstInWords : WordCall → List Answer → WordAnswer
-firstInWords k [] = notMade k
-firstInWords k (a ∷ later) = answerInWords k a
+abbrev pub first_in_words : WordCall → List Answer → WordAnswer
+first_in_words k [] = not_made k
+first_in_words k (a ∷ later) = answer_in_words k a
 
-abbrev pub laterAnswers : List Answer → List Answer
-laterAnswers [] = []
-laterAnswers (a ∷ later) = later
+abbrev pub later_answers : List Answer → List Answer
+later_answers [] = []
+later_answers (a ∷ later) = later
 
 -- an answer for each call
-abbrev pub answersInWords : List WordCall → List Answer → List WordAnswer
-answersInWords [] answers = []
-answersInWords (k ∷ ks) answers =
-    cond (isMade k) (firstInWords k answers ∷ answersInWords ks (laterAnswers answers)) (notMade k ∷ answersInWords ks answers)
+abbrev pub answers_in_words : List WordCall → List Answer → List WordAnswer
+answers_in_words [] answers = []
+answers_in_words (k ∷ ks) answers =
+    cond (is_made k) (first_in_words k answers ∷ answers_in_words ks (later_answers answers)) (not_made k ∷ answers_in_words ks answers)
 
-abbrev pub historyInWords : List ℕ → List WordCall → WordsRan
-historyInWords c ks =
-    let s = historyRun (configOf c) (newPast (configOf c)) (historyCalls ks) in
-    record { answers = answersInWords ks s.answers; left = memoryInWords (historyMemory (configOf c) s.past.now) }
+abbrev pub history_in_words : List ℕ → List WordCall → WordsRan
+history_in_words c ks =
+    let s = history_run (config_of c) (new_past (config_of c)) (history_calls ks) in
+    record { answers = answers_in_words ks s.answers; left = memory_in_words (history_memory (config_of c) s.past.now) }

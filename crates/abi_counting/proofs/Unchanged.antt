@@ -9,27 +9,27 @@ use Rattle.refusals.specs.declared.Check.TheVariants.{Fine, Refused}
 use Rattle.quotes.specs.declared.TopOfBook.{TopOfBook}
 use Rattle.tally.specs.Rules.{Memory, step}
 use Rattle.calibrator.specs.Record.{memory, answered}
-use Rattle.calibrator.specs.Observe.{checkMemory, fresh, rule, judge, refusalBy}
+use Rattle.calibrator.specs.Observe.{check_memory, fresh, rule, judge, refusal_by}
 use Rattle.calibrator.specs.declared.Previous.{Previous}
-use Rattle.config.specs.Configuration.{configOf}
-use Rattle.abi_encoding.specs.Encoding.{recordOf, rightWords, encoded, badEncoding, lent}
-use Rattle.abi_counting.specs.Counting.{ofOutcome, newWords, observeWords}
+use Rattle.config.specs.Configuration.{config_of}
+use Rattle.abi_encoding.specs.Encoding.{record_of, right_words, encoded, bad_encoding, lent}
+use Rattle.abi_counting.specs.Counting.{of_outcome, new_words, observe_words}
 
 module _ (w s m : List ℕ) (t : List ℤ) where
   outcome-kept : (b : Bool) (k : Check) (after : Memory Previous)
-      → let x = cond b (ofOutcome w (answered k (memory (recordOf w) s m t) after)) (lent badEncoding w s m t) in
+      → let x = cond b (of_outcome w (answered k (memory (record_of w) s m t) after)) (lent bad_encoding w s m t) in
       (x.answer ≡ 0 → ⊥) → x ≡ lent x.answer w s m t
   outcome-kept false k after h = refl
   outcome-kept true Fine after h = absurd (h refl)
   outcome-kept true (Refused r) after h = refl
 
 module _ (c w s m : List ℕ) (t : List ℤ) where
-  pub new-unchanged : ((newWords c w s m t).answer ≡ 0 → ⊥) → newWords c w s m t ≡ lent (newWords c w s m t).answer w s m t
-  new-unchanged = outcome-kept w s m t (rightWords c w) (checkMemory (configOf c) (memory (recordOf w) s m t)) (fresh (configOf c))
+  pub new-unchanged : ((new_words c w s m t).answer ≡ 0 → ⊥) → new_words c w s m t ≡ lent (new_words c w s m t).answer w s m t
+  new-unchanged = outcome-kept w s m t (right_words c w) (check_memory (config_of c) (memory (record_of w) s m t)) (fresh (config_of c))
 
-  pub observe-unchanged : (q : TopOfBook) → ((observeWords c w s m t q).answer ≡ 0 → ⊥)
-      → observeWords c w s m t q ≡ lent (observeWords c w s m t q).answer w s m t
+  pub observe-unchanged : (q : TopOfBook) → ((observe_words c w s m t q).answer ≡ 0 → ⊥)
+      → observe_words c w s m t q ≡ lent (observe_words c w s m t q).answer w s m t
   observe-unchanged q =
-      let d = configOf c in
-      let before = memory (recordOf w) s m t in
-      outcome-kept w s m t (encoded c w) (refusalBy (rule d) (judge d) before q) (step (rule d) before q)
+      let d = config_of c in
+      let before = memory (record_of w) s m t in
+      outcome-kept w s m t (encoded c w) (refusal_by (rule d) (judge d) before q) (step (rule d) before q)

@@ -1,31 +1,31 @@
 -- The exported forms of document 01's "New, and one quote": what they answer and leave in the memory that they are lent.
--- Words that are not encoded, and of new words of other lengths, are answered with badEncoding and leave it as it is; else it is the operation's own
+-- Words that are not encoded, and of new words of other lengths, are answered with bad_encoding and leave it as it is; else it is the operation's own
 -- definition, in numbers and words.
 use Rattle.std.specs.Prelude.{ℕ, cond, List, ℤ}
-use Rattle.refusals.specs.Refusals.{checkNumber}
-use Rattle.config.specs.Configuration.{checkConfig, isConfig, configOf}
+use Rattle.refusals.specs.Refusals.{check_number}
+use Rattle.config.specs.Configuration.{check_config, is_config, config_of}
 use Rattle.quotes.specs.declared.TopOfBook.{TopOfBook}
 use Rattle.calibrator.specs.Record.{memory, Outcome}
 use Rattle.calibrator.specs.Observe.{made, observed}
 use Rattle.calibrator.specs.declared.Previous.{Previous}
-use Rattle.abi_encoding.specs.Encoding.{recordOf, rightWords, encoded, badEncoding, Lent, lent, lent_as, wordsUnless}
+use Rattle.abi_encoding.specs.Encoding.{record_of, right_words, encoded, bad_encoding, Lent, lent, lent_as, words_unless}
 
 -- ---- the configuration
 
-abbrev pub validateWords : List ℕ → ℕ
-validateWords c = cond (isConfig c) (checkNumber (checkConfig (configOf c))) badEncoding
+abbrev pub validate_words : List ℕ → ℕ
+validate_words c = cond (is_config c) (check_number (check_config (config_of c))) bad_encoding
 
 -- ---- new, and one quote
 
 -- what an operation leaves of the record's words w
-abbrev pub ofOutcome : List ℕ → Outcome Previous → Lent
-ofOutcome w o = lent_as (checkNumber o.answer) (wordsUnless o.answer w o.left) o.left
+abbrev pub of_outcome : List ℕ → Outcome Previous → Lent
+of_outcome w o = lent_as (check_number o.answer) (words_unless o.answer w o.left) o.left
 
 -- the record is overwritten: its words may be any
-abbrev pub newWords : List ℕ → List ℕ → List ℕ → List ℕ → List ℤ → Lent
-newWords c w s m t =
-    cond (rightWords c w) (ofOutcome w (made (configOf c) (memory (recordOf w) s m t))) (lent badEncoding w s m t)
+abbrev pub new_words : List ℕ → List ℕ → List ℕ → List ℕ → List ℤ → Lent
+new_words c w s m t =
+    cond (right_words c w) (of_outcome w (made (config_of c) (memory (record_of w) s m t))) (lent bad_encoding w s m t)
 
-abbrev pub observeWords : List ℕ → List ℕ → List ℕ → List ℕ → List ℤ → TopOfBook → Lent
-observeWords c w s m t q =
-    cond (encoded c w) (ofOutcome w (observed (configOf c) (memory (recordOf w) s m t) q)) (lent badEncoding w s m t)
+abbrev pub observe_words : List ℕ → List ℕ → List ℕ → List ℕ → List ℤ → TopOfBook → Lent
+observe_words c w s m t q =
+    cond (encoded c w) (of_outcome w (observed (config_of c) (memory (record_of w) s m t) q)) (lent bad_encoding w s m t)

@@ -1,10 +1,12 @@
 // Document 01's configuration, new and quote for callers in C and Rust: numbers and lent slices alone. include/micro_price.h says how they are called.
 // The words of a configuration and of a record are those of specs/Encoding.antt of `abi_encoding`; others are answered with BAD_ENCODING before all else, but new
 // takes any words of the right number for the record that it overwrites. Every other answer is 0 or the number of a refusal.
+#![tactic(auto)]
+
 ghost use Rattle.std.specs.Prelude.{◌≡◌};
 ghost use Rattle.basics.specs.Loan.{given, final};
-ghost use Rattle.abi_encoding.specs.Encoding.{lent, topOfBook};
-ghost use Rattle.abi_counting.specs.Counting.{validateWords, newWords, observeWords};
+ghost use Rattle.abi_encoding.specs.Encoding.{lent, top_of_book};
+ghost use Rattle.abi_counting.specs.Counting.{validate_words, new_words, observe_words};
 
 use abi_encoding::BAD_ENCODING;
 use quotes::TopOfBook;
@@ -13,7 +15,7 @@ use refusals::Check;
 // Whether a configuration is valid: 0 or 1.
 #[unsafe(no_mangle)]
 pub extern "C" fn micro_price_validate(config: &[u64]) -> u64
-    ensures { result ≡ validateWords (given config) }
+    ensures { result ≡ validate_words (given config) }
 {
     if config.len() != config::inner::CONFIG_WORDS {
         return BAD_ENCODING;
@@ -30,7 +32,7 @@ pub extern "C" fn micro_price_new(
     moved: &mut [u64],
     move_half_ticks: &mut [i64],
 ) -> u64
-    ensures { lent result (final rec) (final stay) (final moved) (final move_half_ticks) ≡ newWords (given config) (given rec) (given stay) (given moved) (given move_half_ticks) }
+    ensures { lent result (final rec) (final stay) (final moved) (final move_half_ticks) ≡ new_words (given config) (given rec) (given stay) (given moved) (given move_half_ticks) }
 {
     if !abi_encoding::right_words(config, rec) {
         return BAD_ENCODING;
@@ -66,7 +68,7 @@ pub extern "C" fn micro_price_observe(
     ask_size: u64,
 ) -> u64
     ensures { lent result (final rec) (final stay) (final moved) (final move_half_ticks)
-        ≡ observeWords (given config) (given rec) (given stay) (given moved) (given move_half_ticks) (topOfBook timestamp_ms bid ask bid_size ask_size) }
+        ≡ observe_words (given config) (given rec) (given stay) (given moved) (given move_half_ticks) (top_of_book timestamp_ms bid ask bid_size ask_size) }
 {
     if !abi_encoding::is_encoded(config, rec) {
         return BAD_ENCODING;

@@ -3,7 +3,7 @@ use Rattle.std.specs.Prelude.{ℕ, Bool, cond, ◌&&◌, List, [], ◌∷◌, �
 use Rattle.basics.specs.Lists.{same_words}
 use Rattle.refusals.specs.declared.Check.{Check}
 use Rattle.refusals.specs.declared.Check.TheVariants.{Fine, Refused}
-use Rattle.config.specs.Configuration.{isConfig}
+use Rattle.config.specs.Configuration.{is_config}
 use Rattle.quotes.specs.declared.Skip.TheVariants.{Gap, Spread}
 use Rattle.quotes.specs.declared.TopOfBook.{TopOfBook}
 use Rattle.tally.specs.Events.{Counts}
@@ -13,31 +13,31 @@ use Rattle.calibrator.specs.declared.Counters.{Counters}
 use Rattle.calibrator.specs.declared.Previous.{Previous}
 use Rattle.calibrator.specs.declared.Previous.TheVariants.{Nothing, Quoted}
 use Rattle.calibrator.specs.declared.Record.{Record}
-use Rattle.image_layout.specs.Layout.{previousWords}
+use Rattle.image_layout.specs.Layout.{previous_words}
 
 -- ---- a record
 
 -- how many words
-abbrev pub recordLength : ℕ
-recordLength = 10
+abbrev pub record_length : ℕ
+record_length = 10
 
 -- 1 if a last quote follows else 0, its five words (else zeros), pairs, spread skips, gap skips, largest change
-abbrev pub recordWords : Previous → Counts → List ℕ
-recordWords l k = previousWords l ++ (k.pairs ∷ skipped Spread k ∷ skipped Gap k ∷ k.largest ∷ [])
+abbrev pub record_words : Previous → Counts → List ℕ
+record_words l k = previous_words l ++ (k.pairs ∷ skipped Spread k ∷ skipped Gap k ∷ k.largest ∷ [])
 
 -- those of a memory
-abbrev pub recordWordsOf : Memory Previous → List ℕ
-recordWordsOf m = recordWords m.last m.counts
+abbrev pub record_words_of : Memory Previous → List ℕ
+record_words_of m = record_words m.last m.counts
 
-abbrev pub quoteOf : List ℕ → TopOfBook
-quoteOf w =
+abbrev pub quote_of : List ℕ → TopOfBook
+quote_of w =
     record { timestamp_ms = get_or w 1 0; bid = get_or w 2 0; ask = get_or w 3 0; bid_size = get_or w 4 0; ask_size = get_or w 5 0 }
 
-abbrev pub previousOf : List ℕ → Previous
-previousOf w = cond (eqb (get_or w 0 0) 1) (Quoted (quoteOf w)) Nothing
+abbrev pub previous_of : List ℕ → Previous
+previous_of w = cond (eqb (get_or w 0 0) 1) (Quoted (quote_of w)) Nothing
 
-abbrev pub countersOf : List ℕ → Counters
-countersOf w =
+abbrev pub counters_of : List ℕ → Counters
+counters_of w =
     record {
       pairs = get_or w 6 0;
       skipped_spread_pairs = get_or w 7 0;
@@ -45,30 +45,30 @@ countersOf w =
       largest_move_half_ticks = get_or w 9 0;
     }
 
-abbrev pub recordOf : List ℕ → Record
-recordOf w = record { previous = previousOf w; counters = countersOf w }
+abbrev pub record_of : List ℕ → Record
+record_of w = record { previous = previous_of w; counters = counters_of w }
 
 -- the words are those of the record that they hold
-abbrev pub isRecord : List ℕ → Bool
-isRecord w = same_words w (recordWordsOf (memory (recordOf w) [] [] []))
+abbrev pub is_record : List ℕ → Bool
+is_record w = same_words w (record_words_of (memory (record_of w) [] [] []))
 
 -- whatever they hold, as many words as a configuration and a record have
-abbrev pub rightWords : List ℕ → List ℕ → Bool
-rightWords c w = isConfig c && eqb (length w) recordLength
+abbrev pub right_words : List ℕ → List ℕ → Bool
+right_words c w = is_config c && eqb (length w) record_length
 
 -- a configuration and a record
 abbrev pub encoded : List ℕ → List ℕ → Bool
-encoded c w = isConfig c && isRecord w
+encoded c w = is_config c && is_record w
 
 -- the answer to other words: none of 01's numbers
-abbrev pub badEncoding : ℕ
-badEncoding = 100
+abbrev pub bad_encoding : ℕ
+bad_encoding = 100
 
 -- ---- a quote
 
 -- a quote by its time, bid, ask, bid size and ask size
-abbrev pub topOfBook : ℕ → ℕ → ℕ → ℕ → ℕ → TopOfBook
-topOfBook time bid ask bid-size ask-size =
+abbrev pub top_of_book : ℕ → ℕ → ℕ → ℕ → ℕ → TopOfBook
+top_of_book time bid ask bid-size ask-size =
     record { timestamp_ms = time; bid = bid; ask = ask; bid_size = bid-size; ask_size = ask-size }
 
 -- ---- what an operation on counts leaves
@@ -91,6 +91,6 @@ lent_as answer w m =
     lent answer w m.counts.tables.stay m.counts.tables.moved m.counts.tables.totals
 
 -- the record's words after an operation that was lent the words w and leaves m: refused, as they came; else those of m
-abbrev pub wordsUnless : Check → List ℕ → Memory Previous → List ℕ
-wordsUnless Fine w m = recordWordsOf m
-wordsUnless (Refused r) w m = w
+abbrev pub words_unless : Check → List ℕ → Memory Previous → List ℕ
+words_unless Fine w m = record_words_of m
+words_unless (Refused r) w m = w

@@ -2,5 +2,5 @@
 use Rattle.std.specs.Prelude.{ℕ, Bool, ◌&&◌, eqb}
 
 -- five words without a last quote
-abbrev pub areZero : ℕ → ℕ → ℕ → ℕ → ℕ → Bool
-areZero a b c d e = eqb a 0 && eqb b 0 && eqb c 0 && eqb d 0 && eqb e 0
+abbrev pub are_zero : ℕ → ℕ → ℕ → ℕ → ℕ → Bool
+are_zero a b c d e = eqb a 0 && eqb b 0 && eqb c 0 && eqb d 0 && eqb e 0

@@ -1,9 +1,11 @@
 // A configuration and a record as lent words, for the exported operations. Where a function has a `requires`, each caller proves it.
+#![tactic(auto)]
+
 ghost use Rattle.std.specs.Prelude.{◌≡◌, [], ◌≤◌, length};
 ghost use Rattle.basics.specs.Loan.{given, final};
 ghost use Rattle.calibrator.specs.Record.{memory};
-ghost use Rattle.abi_encoding.specs.Encoding.{recordLength, recordWordsOf, previousOf, recordOf, isRecord, rightWords, encoded};
-ghost use Rattle.abi_encoding.specs.Inner.{areZero};
+ghost use Rattle.abi_encoding.specs.Encoding.{record_length, record_words_of, previous_of, record_of, is_record, right_words, encoded};
+ghost use Rattle.abi_encoding.specs.Inner.{are_zero};
 
 use calibrator::{Counters, Previous, Record};
 use quotes::TopOfBook;
@@ -16,14 +18,14 @@ pub const RECORD_WORDS: usize = 10;
 
 // Whether five words are zero.
 fn are_zero(a: u64, b: u64, c: u64, d: u64, e: u64) -> bool
-    ensures { result ≡ areZero a b c d e }
+    ensures { result ≡ are_zero a b c d e }
 {
     (a == 0) & (b == 0) & (c == 0) & (d == 0) & (e == 0)
 }
 
 // Whether the words are a record's.
 pub fn is_record(w: &[u64]) -> bool
-    ensures { result ≡ isRecord (given w) }
+    ensures { result ≡ is_record (given w) }
 {
     if w.len() != RECORD_WORDS {
         return false;
@@ -36,7 +38,7 @@ pub fn is_record(w: &[u64]) -> bool
 
 // Whether the words are as many as a configuration's and a record's.
 pub fn right_words(config: &[u64], rec: &[u64]) -> bool
-    ensures { result ≡ rightWords (given config) (given rec) }
+    ensures { result ≡ right_words (given config) (given rec) }
 {
     (config.len() == config::inner::CONFIG_WORDS) & (rec.len() == RECORD_WORDS)
 }
@@ -50,7 +52,7 @@ pub fn is_encoded(config: &[u64], rec: &[u64]) -> bool
 
 fn previous_of(w: &[u64]) -> Previous
     requires { 6 ≤ length w.now }
-    ensures { result ≡ previousOf (given w) }
+    ensures { result ≡ previous_of (given w) }
 {
     if w[0] != 1 {
         return Previous::Nothing;
@@ -66,8 +68,8 @@ fn previous_of(w: &[u64]) -> Previous
 
 // The record that words hold, whatever they are.
 pub fn record_of(w: &[u64]) -> Record
-    requires { length w.now ≡ recordLength }
-    ensures { result ≡ recordOf (given w) }
+    requires { length w.now ≡ record_length }
+    ensures { result ≡ record_of (given w) }
 {
     let previous = previous_of(w);
     let counters = Counters {
@@ -81,8 +83,8 @@ pub fn record_of(w: &[u64]) -> Record
 
 // Writes the words of a record.
 pub fn put_record(w: &mut [u64], rec: Record)
-    requires { length w.old ≡ recordLength }
-    ensures { final w ≡ recordWordsOf (memory rec [] [] []) }
+    requires { length w.old ≡ record_length }
+    ensures { final w ≡ record_words_of (memory rec [] [] []) }
 {
     let previous = rec.previous;
     let p = image_layout::previous_words(previous);

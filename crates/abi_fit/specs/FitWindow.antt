@@ -1,14 +1,14 @@
--- What the exported fit and window answer and leave in the memory that they are lent. Words that are not encoded are answered with badEncoding and change
+-- What the exported fit and window answer and leave in the memory that they are lent. Words that are not encoded are answered with bad_encoding and change
 -- nothing; else it is the operation's own definition, in numbers.
 use Rattle.std.specs.Prelude.{ℕ, cond, List, Float, ℤ}
-use Rattle.refusals.specs.Refusals.{number_of, checkNumber}
+use Rattle.refusals.specs.Refusals.{number_of, check_number}
 use Rattle.calibrator.specs.Record.{memory}
-use Rattle.config.specs.Configuration.{configOf}
-use Rattle.abi_encoding.specs.Encoding.{recordOf, encoded, badEncoding}
-use Rattle.recording.specs.Window.{windowOf}
+use Rattle.config.specs.Configuration.{config_of}
+use Rattle.abi_encoding.specs.Encoding.{record_of, encoded, bad_encoding}
+use Rattle.recording.specs.Window.{window_of}
 use Rattle.recording.specs.declared.Window.{Window}
 use Rattle.recording.specs.declared.Window.TheVariants as Window
-use Rattle.fit.specs.Fit.{FitOutcome, fitCounts}
+use Rattle.fit.specs.Fit.{FitOutcome, fit_counts}
 
 -- ---- the fit: document 01, "The fit"
 
@@ -18,16 +18,16 @@ pub record LentFit : Type 0 where
   pub model : List ℕ
   pub scratch : List Float
 
-abbrev pub lentFit : ℕ → List ℕ → List Float → LentFit
-lentFit answer model scratch = record { answer = answer; model = model; scratch = scratch }
+abbrev pub lent_fit : ℕ → List ℕ → List Float → LentFit
+lent_fit answer model scratch = record { answer = answer; model = model; scratch = scratch }
 
-abbrev pub ofFit : FitOutcome → LentFit
-ofFit f = lentFit (checkNumber f.answer) f.model f.scratch
+abbrev pub of_fit : FitOutcome → LentFit
+of_fit f = lent_fit (check_number f.answer) f.model f.scratch
 
-abbrev pub fitWords : List ℕ → List ℕ → List ℕ → List ℕ → List ℤ → List ℕ → List Float → LentFit
-fitWords c w s m t model scratch =
-    cond (encoded c w) (ofFit (fitCounts (configOf c) (memory (recordOf w) s m t) model scratch))
-    (lentFit badEncoding model scratch)
+abbrev pub fit_words : List ℕ → List ℕ → List ℕ → List ℕ → List ℤ → List ℕ → List Float → LentFit
+fit_words c w s m t model scratch =
+    cond (encoded c w) (of_fit (fit_counts (config_of c) (memory (record_of w) s m t) model scratch))
+    (lent_fit bad_encoding model scratch)
 
 -- ---- the window: document 01, "The window"
 
@@ -37,13 +37,13 @@ pub record LentEnds : Type 0 where
   pub first : ℕ
   pub past : ℕ
 
-abbrev pub lentEnds : ℕ → ℕ → ℕ → LentEnds
-lentEnds answer first past = record { answer = answer; first = first; past = past }
+abbrev pub lent_ends : ℕ → ℕ → ℕ → LentEnds
+lent_ends answer first past = record { answer = answer; first = first; past = past }
 
 -- a refusal leaves both
-abbrev pub ofWindow : Window → ℕ → ℕ → LentEnds
-ofWindow (Window.Part e) first past = lentEnds 0 e.first e.past
-ofWindow (Window.Refused r) first past = lentEnds (number_of r) first past
+abbrev pub of_window : Window → ℕ → ℕ → LentEnds
+of_window (Window.Part e) first past = lent_ends 0 e.first e.past
+of_window (Window.Refused r) first past = lent_ends (number_of r) first past
 
-abbrev pub windowWords : List ℕ → ℕ → ℕ → ℕ → ℕ → LentEnds
-windowWords w start end first past = ofWindow (windowOf w start end) first past
+abbrev pub window_words : List ℕ → ℕ → ℕ → ℕ → ℕ → LentEnds
+window_words w start end first past = of_window (window_of w start end) first past

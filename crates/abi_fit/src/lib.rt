@@ -1,7 +1,9 @@
 // Document 01's fit and window for callers in C and Rust: numbers and lent slices alone. include/micro_price.h says how they are called.
+#![tactic(auto)]
+
 ghost use Rattle.std.specs.Prelude.{◌≡◌};
 ghost use Rattle.basics.specs.Loan.{given, final};
-ghost use Rattle.abi_fit.specs.FitWindow.{lentFit, fitWords, lentEnds, windowWords};
+ghost use Rattle.abi_fit.specs.FitWindow.{lent_fit, fit_words, lent_ends, window_words};
 
 use abi_encoding::BAD_ENCODING;
 use recording::Window;
@@ -17,7 +19,7 @@ pub extern "C" fn micro_price_fit_counts(
     scratch: &mut [f64],
     model: &mut [u64],
 ) -> u64
-    ensures { lentFit result (final model) (final scratch) ≡ fitWords (given config) (given rec) (given stay) (given moved) (given move_half_ticks) (given model) (given scratch) }
+    ensures { lent_fit result (final model) (final scratch) ≡ fit_words (given config) (given rec) (given stay) (given moved) (given move_half_ticks) (given model) (given scratch) }
 {
     if !abi_encoding::is_encoded(config, rec) {
         return BAD_ENCODING;
@@ -43,7 +45,7 @@ pub extern "C" fn micro_price_window_of(
     first: &mut u64,
     past: &mut u64,
 ) -> u64
-    ensures { lentEnds result (final first) (final past) ≡ windowWords (given recording) start end (given first) (given past) }
+    ensures { lent_ends result (final first) (final past) ≡ window_words (given recording) start end (given first) (given past) }
 {
     let found = recording::window_of(recording, start, end);
     match found {

@@ -1,10 +1,12 @@
 // Document 01's save and restore for callers in C and Rust: numbers and lent slices alone. include/micro_price.h says how they are called.
 // Words that are no configuration or no record are answered with BAD_ENCODING before all else, but restore takes any words of the right lengths for those that it
 // overwrites. Every other answer is 0 or the number of a refusal.
+#![tactic(auto)]
+
 ghost use Rattle.std.specs.Prelude.{◌≡◌};
 ghost use Rattle.basics.specs.Loan.{given, final};
 ghost use Rattle.abi_encoding.specs.Encoding.{lent};
-ghost use Rattle.abi_image.specs.Images.{lentOut, saveWords, lentBack, restoreWords};
+ghost use Rattle.abi_image.specs.Images.{lent_out, save_words, lent_back, restore_words};
 
 use abi_encoding::BAD_ENCODING;
 use image::Restored;
@@ -19,7 +21,7 @@ pub extern "C" fn micro_price_save(
     move_half_ticks: &[i64],
     out: &mut [u8],
 ) -> u64
-    ensures { lentOut result (final out) ≡ saveWords (given config) (given rec) (given stay) (given moved) (given move_half_ticks) (given out) }
+    ensures { lent_out result (final out) ≡ save_words (given config) (given rec) (given stay) (given moved) (given move_half_ticks) (given out) }
 {
     if !abi_encoding::is_encoded(config, rec) {
         return BAD_ENCODING;
@@ -45,8 +47,8 @@ pub extern "C" fn micro_price_restore(
     moved: &mut [u64],
     move_half_ticks: &mut [i64],
 ) -> u64
-    ensures { lentBack (final config) (lent result (final rec) (final stay) (final moved) (final move_half_ticks))
-        ≡ restoreWords (given image) (given config) (given rec) (given stay) (given moved) (given move_half_ticks) }
+    ensures { lent_back (final config) (lent result (final rec) (final stay) (final moved) (final move_half_ticks))
+        ≡ restore_words (given image) (given config) (given rec) (given stay) (given moved) (given move_half_ticks) }
 {
     if !abi_encoding::right_words(config, rec) {
         return BAD_ENCODING;

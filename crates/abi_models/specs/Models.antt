@@ -1,15 +1,15 @@
--- What the exported model check and signal answer and leave in the memory that they are lent. Words that are not encoded are answered with badEncoding and
+-- What the exported model check and signal answer and leave in the memory that they are lent. Words that are not encoded are answered with bad_encoding and
 -- change nothing; else it is the operation's own definition, in numbers.
 use Rattle.std.specs.Prelude.{ℕ, cond, ◌&&◌, List, [], ◌∷◌, eqb, length}
-use Rattle.floats.specs.Floats.{toBits}
-use Rattle.refusals.specs.Refusals.{number_of, rowOr}
+use Rattle.floats.specs.Floats.{bits_of}
+use Rattle.refusals.specs.Refusals.{number_of, row_or}
 use Rattle.refusals.specs.declared.Check.{Check}
 use Rattle.refusals.specs.declared.Check.TheVariants as Check
 use Rattle.quotes.specs.declared.TopOfBook.{TopOfBook}
-use Rattle.config.specs.Configuration.{isConfig, configOf}
-use Rattle.abi_encoding.specs.Encoding.{badEncoding}
-use Rattle.model_check.specs.Check.{checkModel}
-use Rattle.model_signals.specs.Signal.{sourceNumber, signalOf}
+use Rattle.config.specs.Configuration.{is_config, config_of}
+use Rattle.abi_encoding.specs.Encoding.{bad_encoding}
+use Rattle.model_check.specs.Check.{check_model}
+use Rattle.model_signals.specs.Signal.{source_number, signal_of}
 use Rattle.model_signals.specs.declared.MicroPriceSignal.{MicroPriceSignal}
 use Rattle.model_signals.specs.declared.Signalled.{Signalled}
 use Rattle.model_signals.specs.declared.Signalled.TheVariants as Signalled
@@ -21,15 +21,15 @@ pub record LentRow : Type 0 where
   pub answer : ℕ
   pub row : ℕ
 
-abbrev pub lentRow : ℕ → ℕ → LentRow
-lentRow answer row = record { answer = answer; row = row }
+abbrev pub lent_row : ℕ → ℕ → LentRow
+lent_row answer row = record { answer = answer; row = row }
 
-abbrev pub ofCheck : Check → ℕ → LentRow
-ofCheck Check.Fine row = lentRow 0 row
-ofCheck (Check.Refused r) row = lentRow (number_of r) (rowOr r row)
+abbrev pub of_check : Check → ℕ → LentRow
+of_check Check.Fine row = lent_row 0 row
+of_check (Check.Refused r) row = lent_row (number_of r) (row_or r row)
 
-abbrev pub checkModelWords : List ℕ → List ℕ → ℕ → LentRow
-checkModelWords c model row = cond (isConfig c) (ofCheck (checkModel (configOf c) model) row) (lentRow badEncoding row)
+abbrev pub check_model_words : List ℕ → List ℕ → ℕ → LentRow
+check_model_words c model row = cond (is_config c) (of_check (check_model (config_of c) model) row) (lent_row bad_encoding row)
 
 -- ---- the signal: document 01, "Model and signal"
 
@@ -39,23 +39,23 @@ pub record LentSignal : Type 0 where
   pub out : List ℕ
   pub row : ℕ
 
-abbrev pub lentSignal : ℕ → List ℕ → ℕ → LentSignal
-lentSignal answer out row = record { answer = answer; out = out; row = row }
+abbrev pub lent_signal : ℕ → List ℕ → ℕ → LentSignal
+lent_signal answer out row = record { answer = answer; out = out; row = row }
 
 -- how many words
-abbrev pub signalLength : ℕ
-signalLength = 4
+abbrev pub signal_length : ℕ
+signal_length = 4
 
 -- time, bid + ask, the bits of the adjustment, the source's number
-abbrev pub sentWords : MicroPriceSignal → List ℕ
-sentWords s = s.timestamp_ms ∷ s.mid_sum ∷ toBits s.adjustment ∷ sourceNumber s.source ∷ []
+abbrev pub sent_words : MicroPriceSignal → List ℕ
+sent_words s = s.timestamp_ms ∷ s.mid_sum ∷ bits_of s.adjustment ∷ source_number s.source ∷ []
 
 -- a refusal leaves the words
-abbrev pub ofSignalled : Signalled → List ℕ → ℕ → LentSignal
-ofSignalled (Signalled.Sent s) out row = lentSignal 0 (sentWords s) row
-ofSignalled (Signalled.Refused r) out row = lentSignal (number_of r) out (rowOr r row)
+abbrev pub of_signalled : Signalled → List ℕ → ℕ → LentSignal
+of_signalled (Signalled.Sent s) out row = lent_signal 0 (sent_words s) row
+of_signalled (Signalled.Refused r) out row = lent_signal (number_of r) out (row_or r row)
 
-abbrev pub signalWords : List ℕ → List ℕ → TopOfBook → List ℕ → ℕ → LentSignal
-signalWords c model q out row =
-    cond (isConfig c && eqb (length out) signalLength) (ofSignalled (signalOf (configOf c) model q) out row)
-    (lentSignal badEncoding out row)
+abbrev pub signal_words : List ℕ → List ℕ → TopOfBook → List ℕ → ℕ → LentSignal
+signal_words c model q out row =
+    cond (is_config c && eqb (length out) signal_length) (of_signalled (signal_of (config_of c) model q) out row)
+    (lent_signal bad_encoding out row)

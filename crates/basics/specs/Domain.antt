@@ -6,13 +6,13 @@ abbrev pub most : ℕ
 most = 1000000000
 
 -- the largest mid in half ticks, of two such prices
-abbrev pub mostHalfTicks : ℕ
-mostHalfTicks = 2 * most
+abbrev pub most_half_ticks : ℕ
+most_half_ticks = 2 * most
 
 -- the limit of a counter of pairs or skips
-abbrev pub counterLimit : ℕ
-counterLimit = 2 ^ 52
+abbrev pub counter_limit : ℕ
+counter_limit = 2 ^ 52
 
 -- the limit of a cell, and of a total's size
-abbrev pub cellLimit : ℕ
-cellLimit = 2 ^ 53
+abbrev pub cell_limit : ℕ
+cell_limit = 2 ^ 53

@@ -30,16 +30,16 @@ module _ {A : Type 0} where
   tab zero f = []
   tab (suc n) f = f zero ∷ tab n (λ k. f (suc k))
 
-  -- N rows of N cells, flat: cell (i, j) at cellIndex N i j
+  -- N rows of N cells, flat: cell (i, j) at cell_index N i j
   abbrev pub square : ℕ → (ℕ → ℕ → A) → List A
   square N f = tab (N * N) (λ k. f (k / N) (k % N))
 
 -- the place of cell (i, j) in flat rows of N, and the cell of a flat table
-abbrev pub cellIndex : ℕ → ℕ → ℕ → ℕ
-cellIndex N i j = i * N + j
+abbrev pub cell_index : ℕ → ℕ → ℕ → ℕ
+cell_index N i j = i * N + j
 
 abbrev pub cell_at : ℕ → List ℕ → ℕ → ℕ → ℕ
-cell_at N t i j = get_or t (cellIndex N i j) 0
+cell_at N t i j = get_or t (cell_index N i j) 0
 
 -- the test at i, i + 1, .., k of them
 abbrev pub all_from : (ℕ → Bool) → ℕ → ℕ → Bool

@@ -1,4 +1,6 @@
 // Definitions and laws on tests and lists that the other crates share, document 01's domain and limits, and the smaller and the larger of two words.
+#![tactic(auto)]
+
 ghost use Rattle.std.specs.Prelude.{◌≡◌, min, max};
 
 // The largest price, size and tick.

@@ -3,7 +3,7 @@ use mathlib.Core.Path.{◌≡◌, ap}
 use mathlib.Core.List.{List}
 use Prim.Native.Nat.{ℕ}
 use lib.ListN.{length}
-use Rattle.basics.proofs.Lists.{tab-getD}
+use Rattle.basics.proofs.Lists.{tab-get_d}
 use Rattle.config.specs.declared.MicroPriceConfig.{MicroPriceConfig}
 use Rattle.quotes.specs.declared.Skip.TheVariants.{Gap, Spread}
 use Rattle.tally.specs.Rules.{Memory}
@@ -12,8 +12,8 @@ use Rattle.calibrator.specs.Observe.{rule}
 use Rattle.calibrator.specs.declared.Previous.{Previous}
 use Rattle.calibrator.specs.declared.Record.{Record}
 
-abbrev pub recordOf : Memory Previous → Record
-recordOf m =
+abbrev pub record_of : Memory Previous → Record
+record_of m =
     record {
       previous = m.last;
       counters =
@@ -26,7 +26,7 @@ recordOf m =
     }
 
 pub record-back : (c : MicroPriceConfig) (m : Memory Previous) → length m.counts.skips ≡ (rule c).kinds
-    → memory (recordOf m) m.counts.tables.stay m.counts.tables.moved m.counts.tables.totals ≡ m
+    → memory (record_of m) m.counts.tables.stay m.counts.tables.moved m.counts.tables.totals ≡ m
 record-back c m e =
     ap
     (λ (l : List ℕ).
@@ -35,4 +35,4 @@ record-back c m e =
       counts =
           record { pairs = m.counts.pairs; skips = l; largest = m.counts.largest; tables = m.counts.tables };
     })
-    (tab-getD m.counts.skips kinds 0 e)
+    (tab-get_d m.counts.skips kinds 0 e)

@@ -1,9 +1,9 @@
 -- For the contracts and proofs of inner functions alone: an answer with the record and tables that are left, the counters after a pair or a skip, and an event
 -- counted.
 use Rattle.std.specs.Prelude.{ℕ, ◌+◌, ◌≤◌, max, List, ℤ, nat_abs}
-use Rattle.basics.specs.Domain.{mostHalfTicks}
+use Rattle.basics.specs.Domain.{most_half_ticks}
 use Rattle.tally.specs.Totals.{change}
-use Rattle.refusals.specs.Refusals.{refusal, refuseIf}
+use Rattle.refusals.specs.Refusals.{refusal, refuse_if}
 use Rattle.refusals.specs.declared.Check.{Check}
 use Rattle.refusals.specs.declared.Check.TheVariants.{Fine, Refused}
 use Rattle.config.specs.declared.MicroPriceConfig.{MicroPriceConfig}
@@ -22,26 +22,26 @@ use Rattle.calibrator.specs.declared.Previous.TheVariants.{Quoted}
 use Rattle.calibrator.specs.declared.Record.{Record}
 use Rattle.calibrator.specs.Record.{memory, Outcome, answered}
 use Rattle.config.specs.Configuration.{states}
-use Rattle.quotes.specs.States.{mirrorOf}
+use Rattle.quotes.specs.States.{mirror_of}
 use Rattle.tally.specs.Limits.{touched}
-use Rattle.calibrator.specs.Observe.{judgeAfter}
+use Rattle.calibrator.specs.Observe.{judge_after}
 
 abbrev pub outcome : Check → Record → List ℕ → List ℕ → List ℤ → Outcome Previous
 outcome k r s m t = record { answer = k; left = memory r s m t }
 
-abbrev pub skipCount : Counters → Skip → ℕ
-skipCount k Gap = k.skipped_gap_pairs
-skipCount k Spread = k.skipped_spread_pairs
+abbrev pub skip_count : Counters → Skip → ℕ
+skip_count k Gap = k.skipped_gap_pairs
+skip_count k Spread = k.skipped_spread_pairs
 
-abbrev pub addSkip : Counters → Skip → Counters
-addSkip k Gap =
+abbrev pub add_skip : Counters → Skip → Counters
+add_skip k Gap =
     record {
       pairs = k.pairs;
       skipped_spread_pairs = k.skipped_spread_pairs;
       skipped_gap_pairs = k.skipped_gap_pairs + 1;
       largest_move_half_ticks = k.largest_move_half_ticks;
     }
-addSkip k Spread =
+add_skip k Spread =
     record {
       pairs = k.pairs;
       skipped_spread_pairs = k.skipped_spread_pairs + 1;
@@ -49,8 +49,8 @@ addSkip k Spread =
       largest_move_half_ticks = k.largest_move_half_ticks;
     }
 
-abbrev pub addPair : Counters → PairEntry → Counters
-addPair k e =
+abbrev pub add_pair : Counters → PairEntry → Counters
+add_pair k e =
     record {
       pairs = k.pairs + 1;
       skipped_spread_pairs = k.skipped_spread_pairs;
@@ -65,12 +65,12 @@ abbrev pub limited : Record → Done
 limited r = record { answer = refusal 6; next = r }
 
 -- a refusal, or what follows
-abbrev pub pickDone : Check → Record → Done → Done
-pickDone Fine r d = d
-pickDone (Refused x) r d = record { answer = Refused x; next = r }
+abbrev pub pick_done : Check → Record → Done → Done
+pick_done Fine r d = d
+pick_done (Refused x) r d = record { answer = Refused x; next = r }
 
-abbrev pub noCounters : Counters
-noCounters =
+abbrev pub no_counters : Counters
+no_counters =
     record { pairs = 0; skipped_spread_pairs = 0; skipped_gap_pairs = 0; largest_move_half_ticks = 0 }
 
 abbrev pub entry_of : Pair → PairEntry
@@ -88,14 +88,14 @@ entry_of p =
 pub record Countable (c : MicroPriceConfig) (p : Pair) : Type 0 where
   pub from_at : Located c p.from
   pub to_at : Located c p.to
-  pub mid-from-most : p.mid_from ≤ mostHalfTicks
-  pub mid-to-most : p.mid_to ≤ mostHalfTicks
+  pub mid-from-most : p.mid_from ≤ most_half_ticks
+  pub mid-to-most : p.mid_to ≤ most_half_ticks
 
-abbrev pub judgePair : MicroPriceConfig → TopOfBook → TopOfBook → Check
-judgePair c p q = judgeAfter c (Quoted p) q
+abbrev pub judge_pair : MicroPriceConfig → TopOfBook → TopOfBook → Check
+judge_pair c p q = judge_after c (Quoted p) q
 
 -- an event counted, where nothing before 6 refuses
-abbrev pub countedAs : MicroPriceConfig → Memory Previous → TopOfBook → Event → Outcome Previous
-countedAs c m q e =
-    let after = entered (states c) (mirrorOf c.imbalance_buckets) e m.counts in
-    answered (refuseIf (touched (states c) (mirrorOf c.imbalance_buckets) e after) 6) m (record { last = Quoted q; counts = after })
+abbrev pub counted_as : MicroPriceConfig → Memory Previous → TopOfBook → Event → Outcome Previous
+counted_as c m q e =
+    let after = entered (states c) (mirror_of c.imbalance_buckets) e m.counts in
+    answered (refuse_if (touched (states c) (mirror_of c.imbalance_buckets) e after) 6) m (record { last = Quoted q; counts = after })

@@ -25,16 +25,16 @@ abbrev pub skipped : Skip → Counts → ℕ
 skipped kind k = get_or k.skips (kind_of kind) 0
 
 -- the counters of skips in the order of the numbers
-abbrev pub skipsOf : Counters → List ℕ
-skipsOf k = k.skipped_spread_pairs ∷ k.skipped_gap_pairs ∷ []
+abbrev pub skips_of : Counters → List ℕ
+skips_of k = k.skipped_spread_pairs ∷ k.skipped_gap_pairs ∷ []
 
 -- the counts that a struct of counters and tables hold
-abbrev pub countsOf : Counters → Tables → Counts
-countsOf k t =
-    record { pairs = k.pairs; skips = skipsOf k; largest = k.largest_move_half_ticks; tables = t }
+abbrev pub counts_of : Counters → Tables → Counts
+counts_of k t =
+    record { pairs = k.pairs; skips = skips_of k; largest = k.largest_move_half_ticks; tables = t }
 
 abbrev pub memory : Record → List ℕ → List ℕ → List ℤ → Memory Previous
-memory r s m t = record { last = r.previous; counts = countsOf r.counters (tables s m t) }
+memory r s m t = record { last = r.previous; counts = counts_of r.counters (tables s m t) }
 
 -- an operation's answer and the memory that it leaves
 pub record Outcome (Last : Type 0) : Type 0 where

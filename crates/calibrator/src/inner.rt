@@ -1,16 +1,16 @@
 // The work by value, for Rattle callers, and the functions that it is made of. `new` and `observe` ask nothing; where another has a `requires`, each caller proves it.
 ghost use Rattle.std.specs.Prelude.{◌≡◌, false, ℕ, ◌+◌, ◌*◌, ◌≤◌, ◌<◌, length, replicate, ℤ, pos, List};
 ghost use Rattle.basics.specs.Loan.{given, final};
-ghost use Rattle.basics.specs.Domain.{counterLimit};
+ghost use Rattle.basics.specs.Domain.{counter_limit};
 ghost use Rattle.config.specs.Configuration.{states};
 ghost use Rattle.config.specs.Inner.{Valid};
-ghost use Rattle.quotes.specs.Neighbours.{neighboursOf};
+ghost use Rattle.quotes.specs.Neighbours.{neighbours_of};
 ghost use Rattle.quotes.specs.Inner.{Accepted};
-ghost use Rattle.quotes.specs.Quotes.{checkQuote};
+ghost use Rattle.quotes.specs.Quotes.{check_quote};
 ghost use Rattle.tally.specs.Events.{skip};
 ghost use Rattle.calibrator.specs.Record.{memory, kind_of, came, leaves};
-ghost use Rattle.calibrator.specs.Inner.{outcome, skipCount, addSkip, addPair, accepted, limited, pickDone, noCounters, entry_of, Countable, judgePair, countedAs};
-ghost use Rattle.calibrator.specs.Observe.{eventFrom, wrongLengths, checkTableLengths, made, observed};
+ghost use Rattle.calibrator.specs.Inner.{outcome, skip_count, add_skip, add_pair, accepted, limited, pick_done, no_counters, entry_of, Countable, judge_pair, counted_as};
+ghost use Rattle.calibrator.specs.Observe.{event_from, wrong_lengths, check_table_lengths, made, observed};
 
 use super::{Counters, Done, Previous, Record};
 use config::MicroPriceConfig;
@@ -20,7 +20,7 @@ use tally::PairEntry;
 
 pub fn wrong_lengths(n: usize, stay: usize, moved: usize, move_half_ticks: usize) -> bool
     requires { n ≤ 256 }
-    ensures { result ≡ wrongLengths n stay moved move_half_ticks }
+    ensures { result ≡ wrong_lengths n stay moved move_half_ticks }
 {
     let cells = n * n;
     (stay != cells) | (moved != cells) | (move_half_ticks != n)
@@ -33,7 +33,7 @@ pub fn check_table_lengths(
     moved: usize,
     move_half_ticks: usize,
 ) -> Check
-    ensures { result ≡ checkTableLengths config stay moved move_half_ticks }
+    ensures { result ≡ check_table_lengths config stay moved move_half_ticks }
 {
     if !config::inner::is_valid(config) {
         return Check::Refused(Refusal::Configuration);
@@ -52,7 +52,7 @@ pub fn check_table_lengths(
 // The first of refusals 8, 2, 3, 4 and 5 where there is a last quote.
 fn judge_pair(config: MicroPriceConfig, last: TopOfBook, quote: TopOfBook) -> Check
     requires { 1 ≤ config.tick_size }
-    ensures { result ≡ judgePair config last quote }
+    ensures { result ≡ judge_pair config last quote }
 {
     let sound = quotes::inner::check_quote(config, last);
     let Check::Fine = sound else {
@@ -90,7 +90,7 @@ fn limit(rec: Record) -> Done
 }
 
 fn skip_count(counters: Counters, kind: Skip) -> u64
-    ensures { result ≡ skipCount counters kind }
+    ensures { result ≡ skip_count counters kind }
 {
     match kind {
         Skip::Gap => counters.skipped_gap_pairs,
@@ -99,8 +99,8 @@ fn skip_count(counters: Counters, kind: Skip) -> u64
 }
 
 fn with_skip(counters: Counters, kind: Skip) -> Counters
-    requires { skipCount counters kind < counterLimit }
-    ensures { result ≡ addSkip counters kind }
+    requires { skip_count counters kind < counter_limit }
+    ensures { result ≡ add_skip counters kind }
 {
     let mut next = counters;
     match kind {
@@ -115,8 +115,8 @@ fn with_skip(counters: Counters, kind: Skip) -> Counters
 }
 
 fn with_pair(counters: Counters, e: PairEntry) -> Counters
-    requires { counters.pairs < counterLimit }
-    ensures { result ≡ addPair counters e }
+    requires { counters.pairs < counter_limit }
+    ensures { result ≡ add_pair counters e }
 {
     let mut next = counters;
     next.pairs = counters.pairs + 1;
@@ -144,7 +144,7 @@ fn entry_of(pair: Pair) -> PairEntry
 
 // Counts two neighbours that are skipped.
 fn skip_pair(rec: Record, config: MicroPriceConfig, quote: TopOfBook, kind: Skip) -> Done
-    ensures { (s m : List ℕ) (t : List ℤ) → outcome result.answer result.next s m t ≡ countedAs config (memory rec s m t) quote (skip (kind_of kind)) }
+    ensures { (s m : List ℕ) (t : List ℤ) → outcome result.answer result.next s m t ≡ counted_as config (memory rec s m t) quote (skip (kind_of kind)) }
 {
     let counters = rec.counters;
     if tally::may_count(skip_count(counters, kind)) {
@@ -163,8 +163,8 @@ fn count_pair(
     quote: TopOfBook,
     pair: Pair,
 ) -> Done
-    requires { Valid config × Countable config pair × (wrongLengths (states config) (length stay.old) (length moved.old) (length move_half_ticks.old) ≡ false) }
-    ensures { leaves result.answer result.next stay moved move_half_ticks ≡ countedAs config (came rec stay moved move_half_ticks) quote (eventFrom (Neighbours.Counted pair)) }
+    requires { Valid config × Countable config pair × (wrong_lengths (states config) (length stay.old) (length moved.old) (length move_half_ticks.old) ≡ false) }
+    ensures { leaves result.answer result.next stay moved move_half_ticks ≡ counted_as config (came rec stay moved move_half_ticks) quote (event_from (Neighbours.Counted pair)) }
 {
     let n = config::inner::state_count(config);
     let e = entry_of(pair);
@@ -190,8 +190,8 @@ fn next_quote(
     quote: TopOfBook,
 ) -> Done
     requires { Valid config × Accepted config last × Accepted config quote × (last.timestamp_ms ≤ quote.timestamp_ms)
-        × (wrongLengths (states config) (length stay.old) (length moved.old) (length move_half_ticks.old) ≡ false) }
-    ensures { leaves result.answer result.next stay moved move_half_ticks ≡ countedAs config (came rec stay moved move_half_ticks) quote (eventFrom (neighboursOf config last quote)) }
+        × (wrong_lengths (states config) (length stay.old) (length moved.old) (length move_half_ticks.old) ≡ false) }
+    ensures { leaves result.answer result.next stay moved move_half_ticks ≡ counted_as config (came rec stay moved move_half_ticks) quote (event_from (neighbours_of config last quote)) }
 {
     let found = quotes::inner::neighbours(config, last, quote);
     match found {
@@ -211,7 +211,7 @@ fn next_quote(
 // A first quote.
 fn first_quote(rec: Record, config: MicroPriceConfig, quote: TopOfBook) -> Done
     requires { 1 ≤ config.tick_size }
-    ensures { result ≡ pickDone (checkQuote config quote) rec (accepted rec.counters quote) }
+    ensures { result ≡ pick_done (check_quote config quote) rec (accepted rec.counters quote) }
 {
     let checked = quotes::inner::check_quote(config, quote);
     let Check::Fine = checked else {
@@ -278,7 +278,7 @@ fn zero_totals(t: &mut [i64])
 
 // Counters of a new calibrator.
 pub fn no_counters() -> Counters
-    ensures { result ≡ noCounters }
+    ensures { result ≡ no_counters }
 {
     Counters {
         pairs: 0,

@@ -1,4 +1,6 @@
 // The calibrator: new and one quote (document 01, "New, and one quote"). Its record and tables are lent.
+#![tactic(auto)]
+
 use config::MicroPriceConfig;
 use quotes::TopOfBook;
 use refusals::Check;

@@ -1,5 +1,7 @@
 // Runs texts through the evening and prints what it prints for each. Standard input is tests/comparison/evening_cases.txt, whose form
 // tests/comparison/README.md describes; tests/comparison/make_evening_cases.sh says how the expected output is made.
+#![tactic(auto)]
+
 ghost use Rattle.std.specs.Prelude.{◌≡◌, ◌≤◌, length};
 ghost use Rattle.basics.specs.Loan.{given};
 

@@ -1,4 +1,6 @@
 // Runs the solver, the series and the share on fixed systems and prints the bits. tests/linear_bits says how the expected ones were made.
+#![tactic(auto)]
+
 ghost use Rattle.std.specs.Prelude.{◌<◌, ◌≤◌, length};
 ghost use Rattle.fit_series.specs.Inner.{Scratch};
 

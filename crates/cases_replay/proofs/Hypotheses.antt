@@ -6,45 +6,45 @@ use Prim.Native.Nat.{ℕ}
 use lib.Dec.{T}
 use lib.ListN.{replicate}
 use Rattle.basics.proofs.Tests.{both}
-use Rattle.config.specs.Configuration.{states, configWords}
+use Rattle.config.specs.Configuration.{states, config_words}
 use Rattle.calibrator.specs.declared.Previous.TheVariants.{Quoted}
-use Rattle.image_words.proofs.Words.{areWords, words-by}
-use Rattle.image_layout.specs.Layout.{header, headerIn, previousWords}
-use Rattle.image.specs.Image.{restored, lentWrong}
-use Rattle.history.specs.Calls.{Call, quote, save, restore, ConfigWords, OwnImages, Proper, Past, newPast, historyAct, returns, is_some, is_refused}
-use Rattle.history_replay.specs.Replay.{callsFrom, callsMade, replayed, OwnCalls}
-use Rattle.cases_replay.specs.Journal.{setup, journal, start, firstPart, laterPart, between}
+use Rattle.image_words.proofs.Words.{are_words, words-by}
+use Rattle.image_layout.specs.Layout.{header, header_in, previous_words}
+use Rattle.image.specs.Image.{restored, lent_wrong}
+use Rattle.history.specs.Calls.{Call, quote, save, restore, ConfigWords, OwnImages, Proper, Past, new_past, history_act, returns, is_some, is_refused}
+use Rattle.history_replay.specs.Replay.{calls_from, calls_made, replayed, OwnCalls}
+use Rattle.cases_replay.specs.Journal.{setup, journal, start, first_part, later_part, between}
 
 -- ---- the proviso as a test
 
-abbrev isProper : Past → Call → Bool
-isProper P (quote q) = areWords (previousWords (Quoted q))
-isProper P (save out) = true
-isProper P (restore b lent) =
-    (not (lentWrong (states setup) lent.counts.tables) && is_some (returns setup P b)) || is_refused (restored b lent).answer
+abbrev is_proper : Past → Call → Bool
+is_proper P (quote q) = are_words (previous_words (Quoted q))
+is_proper P (save out) = true
+is_proper P (restore b lent) =
+    (not (lent_wrong (states setup) lent.counts.tables) && is_some (returns setup P b)) || is_refused (restored b lent).answer
 
-proper-by : (P : Past) (k : Call) → isProper P k ≡ true → Proper setup P k
-proper-by P (quote q) e = words-by (previousWords (Quoted q)) e
+proper-by : (P : Past) (k : Call) → is_proper P k ≡ true → Proper setup P k
+proper-by P (quote q) e = words-by (previous_words (Quoted q)) e
 proper-by P (save out) e = tt
 proper-by P (restore b lent) e = subst T (sym e) tt
 
-abbrev areProper : Past → List Call → Bool
-areProper P [] = true
-areProper P (k ∷ ks) = isProper P k && areProper (historyAct setup P k).past ks
+abbrev are_proper : Past → List Call → Bool
+are_proper P [] = true
+are_proper P (k ∷ ks) = is_proper P k && are_proper (history_act setup P k).past ks
 
-own-by : (P : Past) (ks : List Call) → areProper P ks ≡ true → OwnImages setup P ks
+own-by : (P : Past) (ks : List Call) → are_proper P ks ≡ true → OwnImages setup P ks
 own-by P [] e = tt
 own-by P (k ∷ ks) e =
-    let p = both (isProper P k) (areProper (historyAct setup P k).past ks) e in
-    (proper-by P k p.0, own-by (historyAct setup P k).past ks p.1)
+    let p = both (is_proper P k) (are_proper (history_act setup P k).past ks) e in
+    (proper-by P k p.0, own-by (history_act setup P k).past ks p.1)
 
 -- ---- the list
 
 setup-words : ConfigWords setup
-setup-words = words-by (configWords setup) refl
+setup-words = words-by (config_words setup) refl
 
 pub own-calls : OwnCalls setup start journal (replicate {A = ℕ} 17 0)
-unfolding header headerIn
+unfolding header header_in
 own-calls =
     record {
       valid-is = refl;
@@ -52,29 +52,29 @@ own-calls =
       before = [];
       reached = refl;
       coded = refl;
-      own = own-by (newPast setup) (callsMade (callsFrom setup journal 0 17 start)) refl;
+      own = own-by (new_past setup) (calls_made (calls_from setup journal 0 17 start)) refl;
     }
 
 -- ---- its second part, which restores the image that the first part saved
 
-abbrev firstCalls : List Call
-firstCalls = callsMade (callsFrom setup firstPart 0 3 start)
+abbrev first_calls : List Call
+first_calls = calls_made (calls_from setup first_part 0 3 start)
 
-pub own-later-calls : OwnCalls setup between laterPart (replicate {A = ℕ} 14 0)
-unfolding header headerIn
+pub own-later-calls : OwnCalls setup between later_part (replicate {A = ℕ} 14 0)
+unfolding header header_in
 own-later-calls =
     record {
       valid-is = refl;
       words = setup-words;
-      before = firstCalls;
+      before = first_calls;
       reached = refl;
       coded = refl;
-      own = own-by (newPast setup) (firstCalls ++ callsMade (callsFrom setup laterPart 0 14 between)) refl;
+      own = own-by (new_past setup) (first_calls ++ calls_made (calls_from setup later_part 0 14 between)) refl;
     }
 
 -- the numbers of both parts: one restore is left out, and is answered 101
 pub numbers-are :
-    (replayed setup start firstPart (replicate {A = ℕ} 3 0)).numbers ++ (replayed setup between laterPart (replicate {A = ℕ} 14 0)).numbers
+    (replayed setup start first_part (replicate {A = ℕ} 3 0)).numbers ++ (replayed setup between later_part (replicate {A = ℕ} 14 0)).numbers
     ≡ 0 ∷ 0 ∷ 0 ∷ 0 ∷ 5 ∷ 0 ∷ 0 ∷ 3 ∷ 7 ∷ 0 ∷ 1 ∷ 0 ∷ 0 ∷ 12 ∷ 0 ∷ 101 ∷ 0 ∷ []
-unfolding header headerIn
+unfolding header header_in
 numbers-are = refl

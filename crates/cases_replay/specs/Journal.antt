@@ -1,6 +1,6 @@
 -- The list of calls of this program: six words each, as specs/Replay.antt of `history_replay` has it.
 use Rattle.std.specs.Prelude.{List, [], ◌∷◌, ◌++◌, ℕ, replicate, take, drop}
-use Rattle.config.specs.Configuration.{newConfig, withMinStateObservations, withMaxQuoteGapMs}
+use Rattle.config.specs.Configuration.{new_config, with_min_state_observations, with_max_quote_gap_ms}
 use Rattle.config.specs.declared.MicroPriceConfig.{MicroPriceConfig}
 use Rattle.calibrator.specs.Observe.{fresh}
 use Rattle.image_layout.specs.Layout.{newest, image}
@@ -8,7 +8,7 @@ use Rattle.history_replay.specs.Replay.{Site, replayed}
 
 -- three states; an image has 328 bytes
 abbrev pub setup : MicroPriceConfig
-setup = withMaxQuoteGapMs (withMinStateObservations (newConfig 1 3 1) 1) 1000
+setup = with_max_quote_gap_ms (with_min_state_observations (new_config 1 3 1) 1) 1000
 
 abbrev pub journal : List ℕ
 journal =
@@ -32,19 +32,19 @@ journal =
     []
 
 -- another configuration
-abbrev pub otherSetup : MicroPriceConfig
-otherSetup = withMaxQuoteGapMs setup 2000
+abbrev pub other_setup : MicroPriceConfig
+other_setup = with_max_quote_gap_ms setup 2000
 
 -- a new calibrator, and room for two images before one of another configuration
 abbrev pub start : Site
-start = record { memory = fresh setup; room = replicate {A = ℕ} 656 0 ++ image newest otherSetup (fresh otherSetup) }
+start = record { memory = fresh setup; room = replicate {A = ℕ} 656 0 ++ image newest other_setup (fresh other_setup) }
 
 -- the list in two parts: three calls, with the first save, and the others, on what the first part leaves
-abbrev pub firstPart : List ℕ
-firstPart = take 18 journal
+abbrev pub first_part : List ℕ
+first_part = take 18 journal
 
-abbrev pub laterPart : List ℕ
-laterPart = drop 18 journal
+abbrev pub later_part : List ℕ
+later_part = drop 18 journal
 
 abbrev pub between : Site
-between = (replayed setup start firstPart (replicate {A = ℕ} 3 0)).after
+between = (replayed setup start first_part (replicate {A = ℕ} 3 0)).after

@@ -1,5 +1,7 @@
 // Replays a list that saves, counts on, restores, is refused and goes on; a restore of another configuration is left out. Prints each answer, then the words of the two images that it saved.
 // Then a list with a call of no kind, which is not replayed, and calibrators under the default gap and under the gap of an image.
+#![tactic(auto)]
+
 ghost use Rattle.std.specs.Prelude.{◌≡◌};
 ghost use Rattle.cases_replay.specs.Journal as Journal;
 

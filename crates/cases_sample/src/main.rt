@@ -1,5 +1,7 @@
 // Runs the cases on standard input and prints the answer to each. The input and the expected output are tests/comparison/sample_words.txt and sample.expected,
 // whose form tests/comparison/make_sample.sh describes. Where a function has a `requires`, each caller proves it.
+#![tactic(auto)]
+
 ghost use Rattle.std.specs.Prelude.{◌<◌, ◌≤◌, length};
 ghost use Rattle.basics.specs.Loan.{given};
 

@@ -2,13 +2,13 @@
 use Rattle.std.specs.Prelude.{ℕ, ◌*◌, ◌%◌, Bool, not, ◌&&◌, List, [], ◌∷◌, leb, eqb, length, get_or}
 use Rattle.basics.specs.Domain.{most}
 use Rattle.basics.specs.Lists.{same_words}
-use Rattle.refusals.specs.Refusals.{refuseIf}
+use Rattle.refusals.specs.Refusals.{refuse_if}
 use Rattle.refusals.specs.declared.Check.{Check}
 use Rattle.config.specs.declared.MicroPriceConfig.{MicroPriceConfig}
 
 -- tick, buckets and spread states alone take the defaults 100 and 5,000, which document 02, Q-5, puts in place of 01's 60,000
-abbrev pub newConfig : ℕ → ℕ → ℕ → MicroPriceConfig
-newConfig tick n s =
+abbrev pub new_config : ℕ → ℕ → ℕ → MicroPriceConfig
+new_config tick n s =
     record {
       tick_size = tick;
       imbalance_buckets = n;
@@ -17,8 +17,8 @@ newConfig tick n s =
       max_quote_gap_ms = 5000;
     }
 
-abbrev pub withMinStateObservations : MicroPriceConfig → ℕ → MicroPriceConfig
-withMinStateObservations c least =
+abbrev pub with_min_state_observations : MicroPriceConfig → ℕ → MicroPriceConfig
+with_min_state_observations c least =
     record {
       tick_size = c.tick_size;
       imbalance_buckets = c.imbalance_buckets;
@@ -27,8 +27,8 @@ withMinStateObservations c least =
       max_quote_gap_ms = c.max_quote_gap_ms;
     }
 
-abbrev pub withMaxQuoteGapMs : MicroPriceConfig → ℕ → MicroPriceConfig
-withMaxQuoteGapMs c gap =
+abbrev pub with_max_quote_gap_ms : MicroPriceConfig → ℕ → MicroPriceConfig
+with_max_quote_gap_ms c gap =
     record {
       tick_size = c.tick_size;
       imbalance_buckets = c.imbalance_buckets;
@@ -55,27 +55,27 @@ valid c =
     && leb 1 c.max_quote_gap_ms
 
 -- refusal 1
-abbrev pub checkConfig : MicroPriceConfig → Check
-checkConfig c = refuseIf (not (valid c)) 1
+abbrev pub check_config : MicroPriceConfig → Check
+check_config c = refuse_if (not (valid c)) 1
 
 -- ---- its words
 
 -- how many they are
-abbrev pub configLength : ℕ
-configLength = 5
+abbrev pub config_length : ℕ
+config_length = 5
 
-abbrev pub isConfig : List ℕ → Bool
-isConfig w = eqb (length w) configLength
+abbrev pub is_config : List ℕ → Bool
+is_config w = eqb (length w) config_length
 
 -- tick, buckets, spread states, least observations, largest gap
-abbrev pub configWords : MicroPriceConfig → List ℕ
-configWords c =
+abbrev pub config_words : MicroPriceConfig → List ℕ
+config_words c =
     c.tick_size ∷ c.imbalance_buckets ∷ c.spread_states ∷ c.min_state_observations ∷ c.max_quote_gap_ms ∷ []
 
 -- the configuration of such words, by its constructor and setters
-abbrev pub configOf : List ℕ → MicroPriceConfig
-configOf w =
-    withMaxQuoteGapMs (withMinStateObservations (newConfig (get_or w 0 0) (get_or w 1 0) (get_or w 2 0)) (get_or w 3 0)) (get_or w 4 0)
+abbrev pub config_of : List ℕ → MicroPriceConfig
+config_of w =
+    with_max_quote_gap_ms (with_min_state_observations (new_config (get_or w 0 0) (get_or w 1 0) (get_or w 2 0)) (get_or w 3 0)) (get_or w 4 0)
 
-abbrev pub sameConfig : MicroPriceConfig → MicroPriceConfig → Bool
-sameConfig c d = same_words (configWords c) (configWords d)
+abbrev pub same_config : MicroPriceConfig → MicroPriceConfig → Bool
+same_config c d = same_words (config_words c) (config_words d)

@@ -1,7 +1,7 @@
 // Inner functions: for the crates above, not for users. Where one has a `requires`, each caller proves it.
 ghost use Rattle.std.specs.Prelude.{◌≡◌, true};
 ghost use Rattle.basics.specs.Loan.{given, final};
-ghost use Rattle.config.specs.Configuration.{shape, valid, states, isConfig, configWords, configOf, sameConfig};
+ghost use Rattle.config.specs.Configuration.{shape, valid, states, is_config, config_words, config_of, same_config};
 ghost use Rattle.config.specs.Inner.{Valid};
 
 use super::MicroPriceConfig;
@@ -46,8 +46,8 @@ pub const CONFIG_WORDS: usize = 5;
 
 // The configuration of its words.
 pub fn config_of(w: &[u64]) -> MicroPriceConfig
-    requires { isConfig w.now ≡ true }
-    ensures { result ≡ configOf (given w) }
+    requires { is_config w.now ≡ true }
+    ensures { result ≡ config_of (given w) }
 {
     MicroPriceConfig::new(w[0], w[1], w[2])
         .with_min_state_observations(w[3])
@@ -56,8 +56,8 @@ pub fn config_of(w: &[u64]) -> MicroPriceConfig
 
 // Writes the words of a configuration.
 pub fn put_config(w: &mut [u64], config: MicroPriceConfig)
-    requires { isConfig w.old ≡ true }
-    ensures { final w ≡ configWords config }
+    requires { is_config w.old ≡ true }
+    ensures { final w ≡ config_words config }
 {
     w[0] = config.tick_size;
     w[1] = config.imbalance_buckets;
@@ -67,7 +67,7 @@ pub fn put_config(w: &mut [u64], config: MicroPriceConfig)
 }
 
 pub fn same_config(config: MicroPriceConfig, d: MicroPriceConfig) -> bool
-    ensures { result ≡ sameConfig config d }
+    ensures { result ≡ same_config config d }
 {
     (config.tick_size == d.tick_size)
         & (config.imbalance_buckets == d.imbalance_buckets)

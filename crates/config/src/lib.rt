@@ -1,10 +1,12 @@
 // A configuration (document 01, "New, and one quote"): its defaults, and whether it is valid.
+#![tactic(auto)]
+
 use refusals::{Check, Refusal};
 
 pub mod inner;
 
 ghost use Rattle.std.specs.Prelude.{◌≡◌};
-ghost use Rattle.config.specs.Configuration.{newConfig, withMinStateObservations, withMaxQuoteGapMs, checkConfig};
+ghost use Rattle.config.specs.Configuration.{new_config, with_min_state_observations, with_max_quote_gap_ms, check_config};
 
 // Discretization and data rules of the estimator. Any words may stand in it; `validate` judges them.
 #[derive(Drop)]
@@ -29,7 +31,7 @@ impl MicroPriceConfig {
 
     // A configuration with the default observations and gap.
     pub fn new(tick_size: u64, imbalance_buckets: u64, spread_states: u64) -> Self
-        ensures { result ≡ newConfig tick_size imbalance_buckets spread_states }
+        ensures { result ≡ new_config tick_size imbalance_buckets spread_states }
     {
         Self {
             tick_size,
@@ -42,7 +44,7 @@ impl MicroPriceConfig {
 
     // Sets the fewest observations for a state to be calibrated.
     pub fn with_min_state_observations(mut self, observations: u64) -> Self
-        ensures { result ≡ withMinStateObservations self observations }
+        ensures { result ≡ with_min_state_observations self observations }
     {
         self.min_state_observations = observations;
         self
@@ -50,7 +52,7 @@ impl MicroPriceConfig {
 
     // Sets the longest time between two quotes of a pair.
     pub fn with_max_quote_gap_ms(mut self, gap_ms: u64) -> Self
-        ensures { result ≡ withMaxQuoteGapMs self gap_ms }
+        ensures { result ≡ with_max_quote_gap_ms self gap_ms }
     {
         self.max_quote_gap_ms = gap_ms;
         self
@@ -58,7 +60,7 @@ impl MicroPriceConfig {
 
     // Refuses a configuration that is not valid.
     pub fn validate(self) -> Check
-        ensures { result ≡ checkConfig self }
+        ensures { result ≡ check_config self }
     {
         if inner::is_valid(self) {
             Check::Fine

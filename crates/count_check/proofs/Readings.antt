@@ -13,7 +13,7 @@ use Rattle.basics.proofs.Tests.{zero-not-one}
 use Rattle.image_words.specs.Words.{words_of, word_at, untwos}
 use Rattle.image_words.specs.Inner.{WordOf}
 use Rattle.image_words.proofs.Laws.{words-at, length-words}
-use Rattle.count_check.specs.Inner.{cells_in, totalsIn, HasTable}
+use Rattle.count_check.specs.Inner.{cells_in, totals_in, HasTable}
 
 -- the bytes of n words
 module _ (n : ℕ) (b : List ℕ) (h : length b ≡ 8 * n) where
@@ -30,7 +30,7 @@ pub cells-length : (imaged : Bool) (n : ℕ) (t b : List ℕ) → HasTable image
 cells-length true n t b h = words-length n b (h.bytes-is refl)
 cells-length false n t b h = h.lent_is refl
 
-pub totals-length : (imaged : Bool) (n : ℕ) (t : List ℤ) (b : List ℕ) → HasTable imaged n (length t) (length b) → length (totalsIn imaged t b) ≡ n
+pub totals-length : (imaged : Bool) (n : ℕ) (t : List ℤ) (b : List ℕ) → HasTable imaged n (length t) (length b) → length (totals_in imaged t b) ≡ n
 totals-length true n t b h = length-map (words n b (h.bytes-is refl)) untwos ∙ words-length n b (h.bytes-is refl)
 totals-length false n t b h = h.lent_is refl
 
@@ -40,9 +40,9 @@ pub cell-imaged : (imaged : Bool) (n : ℕ) (t b : List ℕ) → HasTable imaged
 cell-imaged imaged n t b h e i w l f = rw e (word-at n b (h.bytes-is e) i w l f)
 
 pub total-imaged : (imaged : Bool) (n : ℕ) (t : List ℤ) (b : List ℕ) → HasTable imaged n (length t) (length b) → imaged ≡ true → (i w : ℕ) → i < n → Fits w64 w
-    → w ≡ word_at b (8 * i) → WordOf w (get_or (totalsIn imaged t b) i (pos 0))
+    → w ≡ word_at b (8 * i) → WordOf w (get_or (totals_in imaged t b) i (pos 0))
 total-imaged imaged n t b h e i w l g f =
-    let v : get_or (totalsIn true t b) i (pos 0) ≡ untwos w =
+    let v : get_or (totals_in true t b) i (pos 0) ≡ untwos w =
     get_or-map untwos (words n b (h.bytes-is e)) i 0 ∙ ap untwos (sym (word-at n b (h.bytes-is e) i w l f)) in
     rw (e, v) (record { is = sym (of_z-to_z g); fits = sfits_to_z g })
 

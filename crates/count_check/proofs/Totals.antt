@@ -9,13 +9,13 @@ use mir.Syntax.{w64}
 use mir.Val.{SFits}
 use borrow.Author.Tests.{le-leb, lt-leb, eq-eqb, ne_eqb, leb-true, eqb-true, eqb-false}
 use Rattle.basics.proofs.Tests.{same_test}
-use Rattle.basics.specs.Domain.{cellLimit}
+use Rattle.basics.specs.Domain.{cell_limit}
 use Rattle.tally.specs.Totals.{within}
 use Rattle.image_words.specs.Words.{twos}
 use Rattle.image_words.specs.Inner.{WordOf}
-use Rattle.tally.specs.Entries.{overTotal}
-use Rattle.count_check.specs.Mirrors.{sameTotal}
-use Rattle.count_check.specs.Inner.{withinWord, oppositeWords}
+use Rattle.tally.specs.Entries.{over_total}
+use Rattle.count_check.specs.Mirrors.{same_total}
+use Rattle.count_check.specs.Inner.{within_word, opposite_words}
 
 leb-iff : (a b c d : ℕ) → (a ≤ b → c ≤ d) → (c ≤ d → a ≤ b) → leb a b ≡ leb c d
 leb-iff a b c d f g =
@@ -25,28 +25,28 @@ pub eqb-iff : (a b c d : ℕ) → (a ≡ b → c ≡ d) → (c ≡ d → a ≡ b
 eqb-iff a b c d f g =
     same_test (eqb a b) (eqb c d) (λ e. eq-eqb c d (f (eqb-true a b e))) (λ e. eq-eqb a b (g (eqb-true c d e)))
 
-within_word : (z : ℤ) → SFits w64 z → withinWord (twos z) ≡ within z
-within_word (pos n) s =
-    rw (lt-leb (2 ^ 64 - cellLimit) n (omega (arith, s.sfits))) (or-false (leb n cellLimit))
-within_word (negsuc k) s =
-    rw (lt-leb (2 ^ 64 - suc k) cellLimit (omega (arith, s.sfits)))
-    (leb-iff (2 ^ 64 - cellLimit) (2 ^ 64 - suc k) (suc k) cellLimit (λ h. omega (arith, s.sfits)) (λ h. omega (arith, s.sfits)))
+within_word_lem : (z : ℤ) → SFits w64 z → within_word (twos z) ≡ within z
+within_word_lem (pos n) s =
+    rw (lt-leb (2 ^ 64 - cell_limit) n (omega (arith, s.sfits))) (or-false (leb n cell_limit))
+within_word_lem (negsuc k) s =
+    rw (lt-leb (2 ^ 64 - suc k) cell_limit (omega (arith, s.sfits)))
+    (leb-iff (2 ^ 64 - cell_limit) (2 ^ 64 - suc k) (suc k) cell_limit (λ h. omega (arith, s.sfits)) (λ h. omega (arith, s.sfits)))
 
-pub over-is : (z : ℤ) (w : ℕ) (r : Bool) → WordOf w z → r ≡ withinWord w → overTotal z ≡ not r
-over-is z w r p e = ap not (sym (e ∙ ap withinWord p.is ∙ within_word z p.fits))
+pub over-is : (z : ℤ) (w : ℕ) (r : Bool) → WordOf w z → r ≡ within_word w → over_total z ≡ not r
+over-is z w r p e = ap not (sym (e ∙ ap within_word p.is ∙ within_word_lem z p.fits))
 
 -- the word of −1 − a, negated
 abbrev turned : ℕ → ℕ
 turned a = 18446744073709551615 - (2 ^ 64 - suc a - 1)
 
-opposite-words : (z y : ℤ) → SFits w64 z → SFits w64 y → oppositeWords (twos z) (twos y) ≡ sameTotal y (neg_ℤ z)
+opposite-words : (z y : ℤ) → SFits w64 z → SFits w64 y → opposite_words (twos z) (twos y) ≡ same_total y (neg_ℤ z)
 opposite-words (pos zero) (pos b) s u = refl
 opposite-words (pos zero) (negsuc b) s u = ne_eqb (2 ^ 64 - suc b) 0 (λ e. omega (arith, u.sfits))
 opposite-words (pos (suc a)) y s u =
     rw (ne_eqb (suc a) 0 (λ e. omega arith), ne_eqb (suc a) 9223372036854775808 (λ e. omega (arith, s.sfits)))
     (go y u)
   where
-    go : (x : ℤ) → SFits w64 x → eqb (twos x) (18446744073709551615 - (suc a - 1)) ≡ sameTotal x (negsuc a)
+    go : (x : ℤ) → SFits w64 x → eqb (twos x) (18446744073709551615 - (suc a - 1)) ≡ same_total x (negsuc a)
     go (pos b) v = ne_eqb b (18446744073709551615 - (suc a - 1)) (λ e. omega (arith, s.sfits, v.sfits))
     go (negsuc b) v =
         eqb-iff (2 ^ 64 - suc b) (18446744073709551615 - (suc a - 1)) b a (λ e. omega (arith, s.sfits, v.sfits)) (λ e. omega (arith, s.sfits, v.sfits))
@@ -54,7 +54,7 @@ opposite-words (negsuc a) y s u =
     rw (ne_eqb (2 ^ 64 - suc a) 0 (λ e. omega (arith, s.sfits)))
     (go (eqb (2 ^ 64 - suc a) 9223372036854775808) refl y u)
   where
-    go : (t : Bool) → eqb (2 ^ 64 - suc a) 9223372036854775808 ≡ t → (x : ℤ) → SFits w64 x → (not t && eqb (twos x) (turned a)) ≡ sameTotal x (pos (suc a))
+    go : (t : Bool) → eqb (2 ^ 64 - suc a) 9223372036854775808 ≡ t → (x : ℤ) → SFits w64 x → (not t && eqb (twos x) (turned a)) ≡ same_total x (pos (suc a))
     go true e (pos b) v =
         sym (ne_eqb b (suc a) (λ h. omega (arith, s.sfits, v.sfits, eqb-true (2 ^ 64 - suc a) 9223372036854775808 e)))
     go true e (negsuc b) v = refl
@@ -63,5 +63,5 @@ opposite-words (negsuc a) y s u =
         ne_eqb (2 ^ 64 - suc b) (turned a)
         (λ h. eqb-false (2 ^ 64 - suc a) 9223372036854775808 e (omega (arith, s.sfits, v.sfits)))
 
-pub opposite-is : (z y : ℤ) (a b : ℕ) → WordOf a z → WordOf b y → oppositeWords a b ≡ sameTotal y (neg_ℤ z)
+pub opposite-is : (z y : ℤ) (a b : ℕ) → WordOf a z → WordOf b y → opposite_words a b ≡ same_total y (neg_ℤ z)
 opposite-is z y a b p q = rw (p.is, q.is) (opposite-words z y p.fits q.fits)

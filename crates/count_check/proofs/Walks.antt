@@ -10,7 +10,7 @@ use lib.ListN.{length, get_or, drop, drop_of_length-le}
 use lib.Seq.{drop-cons}
 use Rattle.basics.specs.Lists.{any, all_from}
 use Rattle.basics.proofs.Tests.{both, le-or-lt, still, gone}
-use Rattle.refusals.specs.Refusals.{first_of, firstFrom}
+use Rattle.refusals.specs.Refusals.{first_of, first_from}
 use Rattle.refusals.specs.declared.Check.{Check}
 
 -- what is left of m at the start
@@ -51,6 +51,6 @@ pub all-ext : (p q : ℕ → Bool) (i k : ℕ) → ((j : ℕ) → j < i + k → 
 all-ext p q i zero h = refl
 all-ext p q i (suc k) h = λ t. h i (omega arith) t && all-ext p q (suc i) k (λ j b. h j (omega arith)) t
 
-pub first-ext : (f g : ℕ → Check) (i k : ℕ) → ((j : ℕ) → j < i + k → f j ≡ g j) → firstFrom f i k ≡ firstFrom g i k
+pub first-ext : (f g : ℕ → Check) (i k : ℕ) → ((j : ℕ) → j < i + k → f j ≡ g j) → first_from f i k ≡ first_from g i k
 first-ext f g i zero h = refl
 first-ext f g i (suc k) h = λ t. first_of (h i (omega arith) t) (first-ext f g (suc i) k (λ j b. h j (omega arith)) t)

@@ -1,18 +1,20 @@
 // The check of counts against their mirrors (document 01, "The fit": 6, 9, 10, 11), of tables that lie in lent slices or in an image.
 // Inner functions: for the crates above, not for users. Where one has a `requires`, each caller proves it.
+#![tactic(auto)]
+
 ghost use Rattle.std.specs.Prelude.{◌≡◌, true, false, [], ℕ, ◌+◌, ◌*◌, ◌≤◌, ◌<◌, min, pos, length, get_or};
 ghost use Rattle.basics.specs.Loan.{given};
 ghost use Rattle.basics.specs.Lists.{any, sum};
-ghost use Rattle.basics.specs.Domain.{counterLimit};
-ghost use Rattle.refusals.specs.Refusals.{firstFrom};
+ghost use Rattle.basics.specs.Domain.{counter_limit};
+ghost use Rattle.refusals.specs.Refusals.{first_from};
 ghost use Rattle.config.specs.Configuration.{states};
 ghost use Rattle.config.specs.Inner.{Valid};
-ghost use Rattle.quotes.specs.States.{mirrorOf};
+ghost use Rattle.quotes.specs.States.{mirror_of};
 ghost use Rattle.image_words.specs.Inner.{WordOf};
-ghost use Rattle.tally.specs.Entries.{tables, overTotal};
-ghost use Rattle.calibrator.specs.Record.{countsOf};
-ghost use Rattle.count_check.specs.Mirrors.{totalMirrored, cellsAlike, rowMirrored, checkState, isTwice, checkCounts, checkMirrored};
-ghost use Rattle.count_check.specs.Inner.{countersOver, cells_in, totalsIn, tablesIn, HasTable, HasTables, Mirrors, sumCap, withinWord, oppositeWords};
+ghost use Rattle.tally.specs.Entries.{tables, over_total};
+ghost use Rattle.calibrator.specs.Record.{counts_of};
+ghost use Rattle.count_check.specs.Mirrors.{total_mirrored, cells_alike, row_mirrored, check_state, is_twice, check_counts, check_mirrored};
+ghost use Rattle.count_check.specs.Inner.{counters_over, cells_in, totals_in, tables_in, HasTable, HasTables, Mirrors, sum_cap, within_word, opposite_words};
 
 use basics::{CELL_LIMIT, COUNTER_LIMIT};
 use calibrator::Counters;
@@ -40,7 +42,7 @@ fn cell_in(t: &[u64], b: &[u8], imaged: bool, n: usize, i: usize) -> u64
 // Total i as its word.
 fn total_in(t: &[i64], b: &[u8], imaged: bool, n: usize, i: usize) -> u64
     requires { HasTable imaged n (length t.now) (length b.now) × (i < n) }
-    ensures { WordOf result (get_or (totalsIn imaged (given t) (given b)) i (pos 0)) }
+    ensures { WordOf result (get_or (totals_in imaged (given t) (given b)) i (pos 0)) }
 {
     if imaged {
         return image_words::get_word(b, 8 * i);
@@ -49,13 +51,13 @@ fn total_in(t: &[i64], b: &[u8], imaged: bool, n: usize, i: usize) -> u64
 }
 
 fn is_within_word(w: u64) -> bool
-    ensures { result ≡ withinWord w }
+    ensures { result ≡ within_word w }
 {
     (w <= CELL_LIMIT) | (LEAST_TOTAL <= w)
 }
 
 fn are_opposite(a: u64, b: u64) -> bool
-    ensures { result ≡ oppositeWords a b }
+    ensures { result ≡ opposite_words a b }
 {
     if a == 0 {
         return b == 0;
@@ -65,7 +67,7 @@ fn are_opposite(a: u64, b: u64) -> bool
 
 fn totals_over(t: &[i64], b: &[u8], imaged: bool, n: usize) -> bool
     requires { HasTable imaged n (length t.now) (length b.now) }
-    ensures { result ≡ any overTotal (totalsIn imaged (given t) (given b)) }
+    ensures { result ≡ any over_total (totals_in imaged (given t) (given b)) }
 {
     let mut i: usize = 0;
     while i < n {
@@ -79,7 +81,7 @@ fn totals_over(t: &[i64], b: &[u8], imaged: bool, n: usize) -> bool
 
 fn total_mirrored(t: &[i64], b: &[u8], imaged: bool, n: usize, i: usize, m: usize) -> bool
     requires { HasTable imaged n (length t.now) (length b.now) × (i < n) × (m < n) }
-    ensures { result ≡ totalMirrored (totalsIn imaged (given t) (given b)) i m }
+    ensures { result ≡ total_mirrored (totals_in imaged (given t) (given b)) i m }
 {
     let x = total_in(t, b, imaged, n, i);
     let y = total_in(t, b, imaged, n, m);
@@ -88,8 +90,8 @@ fn total_mirrored(t: &[i64], b: &[u8], imaged: bool, n: usize, i: usize, m: usiz
 
 // A sum, or the cap where it is more than that.
 fn add_capped(a: u64, x: u64) -> u64
-    requires { a ≤ sumCap }
-    ensures { result ≡ min sumCap (a + x) }
+    requires { a ≤ sum_cap }
+    ensures { result ≡ min sum_cap (a + x) }
 {
     if SUM_CAP <= x {
         return SUM_CAP;
@@ -102,7 +104,7 @@ fn add_capped(a: u64, x: u64) -> u64
 
 fn sum_capped(t: &[u64], b: &[u8], imaged: bool, n: usize) -> u64
     requires { HasTable imaged n (length t.now) (length b.now) }
-    ensures { result ≡ min sumCap (sum (cells_in imaged (given t) (given b))) }
+    ensures { result ≡ min sum_cap (sum (cells_in imaged (given t) (given b))) }
 {
     let mut a: u64 = 0;
     let mut i: usize = 0;
@@ -123,8 +125,8 @@ fn is_twice(
     imaged: bool,
     cells: usize,
 ) -> bool
-    requires { (pairs ≤ counterLimit) × HasTable imaged cells (length stay.now) (length sb.now) × HasTable imaged cells (length moved.now) (length mb.now) }
-    ensures { result ≡ isTwice pairs (tables (cells_in imaged (given stay) (given sb)) (cells_in imaged (given moved) (given mb)) []) }
+    requires { (pairs ≤ counter_limit) × HasTable imaged cells (length stay.now) (length sb.now) × HasTable imaged cells (length moved.now) (length mb.now) }
+    ensures { result ≡ is_twice pairs (tables (cells_in imaged (given stay) (given sb)) (cells_in imaged (given moved) (given mb)) []) }
 {
     let a = sum_capped(stay, sb, imaged, cells);
     let b = sum_capped(moved, mb, imaged, cells);
@@ -133,7 +135,7 @@ fn is_twice(
 
 fn cells_alike(t: &[u64], b: &[u8], imaged: bool, n: usize, x: usize, y: usize) -> bool
     requires { HasTable imaged n (length t.now) (length b.now) × (x < n) × (y < n) }
-    ensures { result ≡ cellsAlike (cells_in imaged (given t) (given b)) x y }
+    ensures { result ≡ cells_alike (cells_in imaged (given t) (given b)) x y }
 {
     let p = cell_in(t, b, imaged, n, x);
     let q = cell_in(t, b, imaged, n, y);
@@ -151,7 +153,7 @@ fn row_mirrored(
     i: usize,
 ) -> bool
     requires { (n ≤ 256) × (i < n) × Mirrors n mirrors.now × HasTable imaged (n * n) (length stay.now) (length sb.now) × HasTable imaged (n * n) (length moved.now) (length mb.now) }
-    ensures { result ≡ rowMirrored n (λ k. get_or (given mirrors) k 0) (tables (cells_in imaged (given stay) (given sb)) (cells_in imaged (given moved) (given mb)) []) i }
+    ensures { result ≡ row_mirrored n (λ k. get_or (given mirrors) k 0) (tables (cells_in imaged (given stay) (given sb)) (cells_in imaged (given moved) (given mb)) []) i }
 {
     let cells = n * n;
     let m = mirrors[i];
@@ -184,7 +186,7 @@ fn check_state(
 ) -> Check
     requires { (i < n) × Mirrors n mirrors.now
         × HasTables imaged n (length stay.now) (length moved.now) (length move_half_ticks.now) (length sb.now) (length mb.now) (length tb.now) }
-    ensures { result ≡ checkState n (λ k. get_or (given mirrors) k 0) (tablesIn imaged (given stay) (given moved) (given move_half_ticks) (given sb) (given mb) (given tb)) i }
+    ensures { result ≡ check_state n (λ k. get_or (given mirrors) k 0) (tables_in imaged (given stay) (given moved) (given move_half_ticks) (given sb) (given mb) (given tb)) i }
 {
     if !total_mirrored(move_half_ticks, tb, imaged, n, i, mirrors[i]) {
         return Check::Refused(Refusal::TotalsUnmirrored);
@@ -207,7 +209,7 @@ fn check_states(
     imaged: bool,
 ) -> Check
     requires { Mirrors n mirrors.now × HasTables imaged n (length stay.now) (length moved.now) (length move_half_ticks.now) (length sb.now) (length mb.now) (length tb.now) }
-    ensures { result ≡ firstFrom (checkState n (λ k. get_or (given mirrors) k 0) (tablesIn imaged (given stay) (given moved) (given move_half_ticks) (given sb) (given mb) (given tb))) 0 n }
+    ensures { result ≡ first_from (check_state n (λ k. get_or (given mirrors) k 0) (tables_in imaged (given stay) (given moved) (given move_half_ticks) (given sb) (given mb) (given tb))) 0 n }
 {
     let mut i: usize = 0;
     while i < n {
@@ -232,7 +234,7 @@ fn check_states(
 }
 
 fn counters_over(k: Counters) -> bool
-    ensures { result ≡ countersOver k }
+    ensures { result ≡ counters_over k }
 {
     (COUNTER_LIMIT < k.pairs)
         | (COUNTER_LIMIT < k.skipped_spread_pairs)
@@ -253,7 +255,7 @@ pub fn check_counts(
     imaged: bool,
 ) -> Check
     requires { Mirrors n mirrors.now × HasTables imaged n (length stay.now) (length moved.now) (length move_half_ticks.now) (length sb.now) (length mb.now) (length tb.now) }
-    ensures { result ≡ checkCounts n (λ k. get_or (given mirrors) k 0) (countsOf counters (tablesIn imaged (given stay) (given moved) (given move_half_ticks) (given sb) (given mb) (given tb))) }
+    ensures { result ≡ check_counts n (λ k. get_or (given mirrors) k 0) (counts_of counters (tables_in imaged (given stay) (given moved) (given move_half_ticks) (given sb) (given mb) (given tb))) }
 {
     if counters_over(counters) {
         return Check::Refused(Refusal::CountLimit);
@@ -274,7 +276,7 @@ pub fn check_counts(
 // The mirrors of a configuration's states, in one walk that knows the spread level of each.
 pub fn mirrors_of(config: MicroPriceConfig) -> [usize; 256]
     requires { Valid config }
-    ensures { (i : ℕ) → i < states config → get_or result i 0 ≡ mirrorOf config.imbalance_buckets i }
+    ensures { (i : ℕ) → i < states config → get_or result i 0 ≡ mirror_of config.imbalance_buckets i }
 {
     let n = config::inner::state_count(config);
     let w = config.imbalance_buckets as usize;
@@ -305,7 +307,7 @@ pub fn check_tables(
     imaged: bool,
 ) -> Check
     requires { Valid config × HasTables imaged (states config) (length stay.now) (length moved.now) (length move_half_ticks.now) (length sb.now) (length mb.now) (length tb.now) }
-    ensures { result ≡ checkMirrored config (countsOf counters (tablesIn imaged (given stay) (given moved) (given move_half_ticks) (given sb) (given mb) (given tb))) }
+    ensures { result ≡ check_mirrored config (counts_of counters (tables_in imaged (given stay) (given moved) (given move_half_ticks) (given sb) (given mb) (given tb))) }
 {
     let n = config::inner::state_count(config);
     let mirrors = mirrors_of(config);
@@ -332,7 +334,7 @@ pub fn check_mirrored_counts(
     move_half_ticks: &[i64],
 ) -> Check
     requires { Valid config × (length stay.now ≡ states config * states config) × (length moved.now ≡ states config * states config) × (length move_half_ticks.now ≡ states config) }
-    ensures { result ≡ checkMirrored config (countsOf counters (tables (given stay) (given moved) (given move_half_ticks))) }
+    ensures { result ≡ check_mirrored config (counts_of counters (tables (given stay) (given moved) (given move_half_ticks))) }
 {
     let none = [0u8; 1];
     check_tables(

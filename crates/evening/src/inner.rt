@@ -3,11 +3,11 @@ ghost use Rattle.std.specs.Prelude.{◌≡◌, false, List, ℕ, length};
 ghost use Rattle.basics.specs.Loan.{given, final};
 ghost use Rattle.refusals.specs.declared.Check.TheVariants.{Fine};
 ghost use Rattle.calibrator.specs.Record.{came, remains};
-ghost use Rattle.calibrator.specs.Observe.{checkTableLengths, fresh};
-ghost use Rattle.recording.specs.Recording.{quotesOf, uneven};
-ghost use Rattle.recording.specs.Window.{checkWindow, windowOf};
-ghost use Rattle.recording.specs.Observe.{recorded, recordedAs};
-ghost use Rattle.evening.specs.Evening.{checkLengths, endEvening, counted, calibrated};
+ghost use Rattle.calibrator.specs.Observe.{check_table_lengths, fresh};
+ghost use Rattle.recording.specs.Recording.{quotes_of, uneven};
+ghost use Rattle.recording.specs.Window.{check_window, window_of};
+ghost use Rattle.recording.specs.Observe.{recorded, recorded_as};
+ghost use Rattle.evening.specs.Evening.{check_lengths, end_evening, counted, calibrated};
 
 use super::{Counted, Evening, EveningDone};
 use calibrator::Record;
@@ -17,7 +17,7 @@ use refusals::{Check, Refusal};
 
 // 7, 14, 15, by the answer of `window_of`.
 fn check_window(window: Window) -> Check
-    ensures { (w : List ℕ) (start end : ℕ) → window ≡ windowOf w start end → result ≡ checkWindow w start end }
+    ensures { (w : List ℕ) (start end : ℕ) → window ≡ window_of w start end → result ≡ check_window w start end }
 {
     match window {
         Window::Part(_) => Check::Fine,
@@ -35,8 +35,8 @@ fn check_evening(
     scratch: usize,
     model: usize,
 ) -> Check
-    ensures { (w : List ℕ) (start end : ℕ) → window ≡ windowOf w start end
-        → result ≡ checkLengths config w start end stay moved move_half_ticks scratch model }
+    ensures { (w : List ℕ) (start end : ℕ) → window ≡ window_of w start end
+        → result ≡ check_lengths config w start end stay moved move_half_ticks scratch model }
 {
     let judged = check_window(window);
     let Check::Fine = judged else {
@@ -61,8 +61,8 @@ fn count_part(
     config: MicroPriceConfig,
     part: &[u64],
 ) -> Recorded
-    requires { (checkTableLengths config (length stay.old) (length moved.old) (length move_half_ticks.old) ≡ Fine) × (uneven part.now ≡ false) }
-    ensures { recordedAs result.answer result.invalid (remains result.next stay moved move_half_ticks) ≡ recorded config (quotesOf (given part)) 0 (fresh config) }
+    requires { (check_table_lengths config (length stay.old) (length moved.old) (length move_half_ticks.old) ≡ Fine) × (uneven part.now ≡ false) }
+    ensures { recorded_as result.answer result.invalid (remains result.next stay moved move_half_ticks) ≡ recorded config (quotes_of (given part)) 0 (fresh config) }
 {
     let new = calibrator::inner::new(rec, stay, moved, move_half_ticks, config);
     let begun = new.next;
@@ -80,9 +80,9 @@ fn count_and_fit(
     scratch: &mut [f64],
     model: &mut [u64],
 ) -> EveningDone
-    requires { (checkTableLengths config (length stay.old) (length moved.old) (length move_half_ticks.old) ≡ Fine) × (uneven part.now ≡ false) }
-    ensures { endEvening result.answer (remains result.next stay moved move_half_ticks) (final model) (final scratch)
-        ≡ counted config (recorded config (quotesOf (given part)) 0 (fresh config)) (given model) (given scratch) }
+    requires { (check_table_lengths config (length stay.old) (length moved.old) (length move_half_ticks.old) ≡ Fine) × (uneven part.now ≡ false) }
+    ensures { end_evening result.answer (remains result.next stay moved move_half_ticks) (final model) (final scratch)
+        ≡ counted config (recorded config (quotes_of (given part)) 0 (fresh config)) (given model) (given scratch) }
 {
     let done = count_part(rec, stay, moved, move_half_ticks, config, part);
     let observed = done.answer;
@@ -128,7 +128,7 @@ pub fn calibrate_micro_price(
     scratch: &mut [f64],
     model: &mut [u64],
 ) -> EveningDone
-    ensures { endEvening result.answer (remains result.next stay moved move_half_ticks) (final model) (final scratch)
+    ensures { end_evening result.answer (remains result.next stay moved move_half_ticks) (final model) (final scratch)
         ≡ calibrated config (came rec stay moved move_half_ticks) (given recording) start end (given model) (given scratch) }
 {
     let window = recording::window_of(recording, start, end);

@@ -1,4 +1,6 @@
 // An evening's calibration (document 01, "An evening's calibration"): the window of a recording counted from new, and fitted.
+#![tactic(auto)]
+
 use calibrator::Record;
 use config::MicroPriceConfig;
 use refusals::{Check, Refusal};
@@ -8,7 +10,7 @@ pub mod inner;
 ghost use Rattle.std.specs.Prelude.{◌≡◌};
 ghost use Rattle.basics.specs.Loan.{given, final};
 ghost use Rattle.calibrator.specs.Record.{came, remains};
-ghost use Rattle.evening.specs.Evening.{endEvening, calibrated};
+ghost use Rattle.evening.specs.Evening.{end_evening, calibrated};
 
 // A fit's answer, nothing refused or 16 to 19, and the number of invalid quotes.
 #[derive(Drop)]
@@ -45,7 +47,7 @@ pub fn calibrate_micro_price(
     scratch: &mut [f64],
     model: &mut [u64],
 ) -> Evening
-    ensures { endEvening result (remains (final rec) stay moved move_half_ticks) (final model) (final scratch)
+    ensures { end_evening result (remains (final rec) stay moved move_half_ticks) (final model) (final scratch)
         ≡ calibrated config (came (given rec) stay moved move_half_ticks) (given recording) start end (given model) (given scratch) }
 {
     let done = inner::calibrate_micro_price(

@@ -9,24 +9,24 @@ use lib.IntN.{ℤ, pos, neg_ℤ}
 use lib.ListN.{replicate}
 use lib.Ieee.{Float, add, sub, mul, div, neg, lt, le, eq, is_nan, round, of_bits, of_int, to_bits}
 use Rattle.basics.specs.Lists.{square}
-use Rattle.floats.specs.Floats.{posZero, one, abs, asGreat, max, isInfinite, clamp, plusZero, half}
+use Rattle.floats.specs.Floats.{pos_zero, one, abs, as_great, max, is_infinite, clamp, plus_zero, half}
 use Rattle.refusals.specs.Refusals.{refusal}
 use Rattle.refusals.specs.declared.Check.TheVariants.{Fine}
-use Rattle.config.specs.Configuration.{newConfig, withMinStateObservations, withMaxQuoteGapMs, states}
+use Rattle.config.specs.Configuration.{new_config, with_min_state_observations, with_max_quote_gap_ms, states}
 use Rattle.config.specs.declared.MicroPriceConfig.{MicroPriceConfig}
 use Rattle.quotes.proofs.Marked.{marked}
 use Rattle.tally.specs.Entries.{tables}
 use Rattle.tally.specs.Rules.{Memory}
 use Rattle.calibrator.specs.declared.Previous.{Previous}
 use Rattle.calibrator.specs.declared.Previous.TheVariants.{Nothing}
-use Rattle.fit_marking.specs.Below.{sum_to, someTo}
-use Rattle.fit_marking.specs.Marks.{observations, reachesIn, mark_of}
-use Rattle.fit_linear.specs.Elimination.{system, pivotRow, swapped, cleared, reduced, columnSolved, columnsSolved}
-use Rattle.fit_series.specs.Series.{dot, largest, summed, shareAfter}
+use Rattle.fit_marking.specs.Below.{sum_to, some_to}
+use Rattle.fit_marking.specs.Marks.{observations, reaches_in, mark_of}
+use Rattle.fit_linear.specs.Elimination.{system, pivot_row, swapped, cleared, reduced, column_solved, columns_solved}
+use Rattle.fit_series.specs.Series.{dot, largest, summed, share_after}
 use Rattle.fit_system.specs.Rows.{part}
-use Rattle.fit_system.specs.Solution.{solutionOf}
-use Rattle.fit_estimates.specs.Estimates.{adjusted, estimateOf}
-use Rattle.fit.specs.Fit.{FitOutcome, judgedRows, fitOf, endFit, fittedWith, fitCounts}
+use Rattle.fit_system.specs.Solution.{solution_of}
+use Rattle.fit_estimates.specs.Estimates.{adjusted, estimate_of}
+use Rattle.fit.specs.Fit.{FitOutcome, judged_rows, fit_of, end_fit, fitted_with, fit_counts}
 
 -- ---- tables by their cells, and outcomes
 
@@ -34,13 +34,13 @@ use Rattle.fit.specs.Fit.{FitOutcome, judgedRows, fitOf, endFit, fittedWith, fit
 pub data Cell : Type 0 where
   cell : ℕ → ℕ → ℕ → Cell
 
-abbrev countIn : List Cell → ℕ → ℕ → ℕ
-countIn [] i j = 0
-countIn (cell r k x ∷ cells) i j = cond (eqb r i && eqb k j) x (countIn cells i j)
+abbrev count_in : List Cell → ℕ → ℕ → ℕ
+count_in [] i j = 0
+count_in (cell r k x ∷ cells) i j = cond (eqb r i && eqb k j) x (count_in cells i j)
 
 -- N states, pairs, the largest change, the cells of stay and of moved that are not zero, and the move totals
-abbrev withCounts : ℕ → ℕ → ℕ → List Cell → List Cell → List ℤ → Memory Previous
-withCounts N pairs largest stay moved totals =
+abbrev with_counts : ℕ → ℕ → ℕ → List Cell → List Cell → List ℤ → Memory Previous
+with_counts N pairs largest stay moved totals =
     record {
       last = Nothing;
       counts =
@@ -48,7 +48,7 @@ withCounts N pairs largest stay moved totals =
             pairs = pairs;
             skips = 0 ∷ 0 ∷ [];
             largest = largest;
-            tables = tables (square N (countIn stay)) (square N (countIn moved)) totals;
+            tables = tables (square N (count_in stay)) (square N (count_in moved)) totals;
           };
     }
 
@@ -59,15 +59,15 @@ nines N = replicate (7 * N) 9
 abbrev pub ones : ℕ → List Float
 ones N = replicate (N * (2 * N + 10)) one
 
-abbrev pub outcomeOf : MicroPriceConfig → Memory Previous → FitOutcome
-outcomeOf c m = fitCounts c m (nines (states c)) (ones (states c))
+abbrev pub outcome_of : MicroPriceConfig → Memory Previous → FitOutcome
+outcome_of c m = fit_counts c m (nines (states c)) (ones (states c))
 
 -- the outcome of N states where the fit succeeds with this model, and where it answers 16 to 19
 abbrev pub succeeds : ℕ → List ℕ → FitOutcome
-succeeds N model = endFit Fine model (replicate (N * (2 * N + 10)) posZero)
+succeeds N model = end_fit Fine model (replicate (N * (2 * N + 10)) pos_zero)
 
-abbrev pub failsWith : ℕ → ℕ → FitOutcome
-failsWith N k = endFit (refusal k) (nines N) (replicate (N * (2 * N + 10)) posZero)
+abbrev pub fails_with : ℕ → ℕ → FitOutcome
+fails_with N k = end_fit (refusal k) (nines N) (replicate (N * (2 * N + 10)) pos_zero)
 
 -- bucket, spread, observations, bits of first adjustment, adjustment and share, status
 abbrev row : ℕ → ℕ → ℕ → ℕ → ℕ → ℕ → ℕ → List ℕ
@@ -81,7 +81,7 @@ unseen bucket spread = row bucket spread 0 0 0 0x3ff0_0000_0000_0000 1
 
 -- quotes 0 100 101 9 1 and 1 100 102 5 5: from state 2 to 4 with change 1, and the mirror
 abbrev printed-counts : Memory Previous
-printed-counts = withCounts 6 1 1 [] (cell 0 4 1 ∷ cell 2 4 1 ∷ []) (neg_ℤ (pos 1) ∷ pos 0 ∷ pos 1 ∷ replicate 3 (pos 0))
+printed-counts = with_counts 6 1 1 [] (cell 0 4 1 ∷ cell 2 4 1 ∷ []) (neg_ℤ (pos 1) ∷ pos 0 ∷ pos 1 ∷ replicate 3 (pos 0))
 
 abbrev pub printed-model : List ℕ
 printed-model =
@@ -96,19 +96,19 @@ printed-model =
 
 -- 16: quotes 0 100 101 9 1 and 1 101 102 5 5: from state 2 to 1 with change 2, and the mirror
 abbrev counts16 : Memory Previous
-counts16 = withCounts 6 1 2 [] (cell 0 1 1 ∷ cell 2 1 1 ∷ []) (neg_ℤ (pos 2) ∷ pos 0 ∷ pos 2 ∷ replicate 3 (pos 0))
+counts16 = with_counts 6 1 2 [] (cell 0 1 1 ∷ cell 2 1 1 ∷ []) (neg_ℤ (pos 2) ∷ pos 0 ∷ pos 2 ∷ replicate 3 (pos 0))
 
 -- 17: stay(1,1) = 2^44, moved(1,1) = 2, pairs 2^43 + 1
 abbrev counts17 : Memory Previous
-counts17 = withCounts 6 (2 ^ 43 + 1) 1 (cell 1 1 (2 ^ 44) ∷ []) (cell 1 1 2 ∷ []) (replicate 6 (pos 0))
+counts17 = with_counts 6 (2 ^ 43 + 1) 1 (cell 1 1 (2 ^ 44) ∷ []) (cell 1 1 2 ∷ []) (replicate 6 (pos 0))
 
 -- 19: tick 10^9, n = 5, stay(0,1) = stay(4,3) = 1, stay(1,0) = stay(3,4) = 10^10, moved(1,2) = moved(3,2) = 1, totals 2^53 at 0 and −2^53 at 4
 abbrev config19 : MicroPriceConfig
-config19 = withMaxQuoteGapMs (withMinStateObservations (newConfig (10 ^ 9) 5 2) 1) 1000
+config19 = with_max_quote_gap_ms (with_min_state_observations (new_config (10 ^ 9) 5 2) 1) 1000
 
 abbrev counts19 : Memory Previous
 counts19 =
-    withCounts 10 10000000002 1
+    with_counts 10 10000000002 1
     (cell 0 1 1 ∷ cell 4 3 1 ∷ cell 1 0 (10 ^ 10) ∷ cell 3 4 (10 ^ 10) ∷ [])
     (cell 1 2 1 ∷ cell 3 2 1 ∷ [])
     (pos (2 ^ 53) ∷ pos 0 ∷ pos 0 ∷ pos 0 ∷ neg_ℤ (pos (2 ^ 53)) ∷ replicate 5 (pos 0))
@@ -116,11 +116,11 @@ counts19 =
 -- ---- a stay cell between two states
 
 abbrev three-buckets : MicroPriceConfig
-three-buckets = withMaxQuoteGapMs (withMinStateObservations (newConfig 1 3 1) 1) 1000
+three-buckets = with_max_quote_gap_ms (with_min_state_observations (new_config 1 3 1) 1) 1000
 
 -- 1 − Q has −1/2 at (0, 2) and (2, 0), so that row 2 is cleared by the factor −1/2; K is −1/2 and 1/2, G1 about −1/3 and 1/3
 abbrev stay-counts : Memory Previous
-stay-counts = withCounts 3 2 1 (cell 0 2 1 ∷ cell 2 0 1 ∷ []) (cell 0 1 1 ∷ cell 2 1 1 ∷ []) (neg_ℤ (pos 1) ∷ pos 0 ∷ pos 1 ∷ [])
+stay-counts = with_counts 3 2 1 (cell 0 2 1 ∷ cell 2 0 1 ∷ []) (cell 0 1 1 ∷ cell 2 1 1 ∷ []) (neg_ℤ (pos 1) ∷ pos 0 ∷ pos 1 ∷ [])
 
 abbrev stay-model : List ℕ
 stay-model =
@@ -133,7 +133,7 @@ stay-model =
 -- quotes 0 100 101 1 9, 1 100 102 1 9 and 2 101 103 5 5: from state 0 to 3 with change 1, from 3 to 4 with change 2, and the mirrors
 abbrev two-moves : Memory Previous
 two-moves =
-    withCounts 6 2 2 []
+    with_counts 6 2 2 []
     (cell 0 3 1 ∷ cell 2 5 1 ∷ cell 3 4 1 ∷ cell 5 4 1 ∷ [])
     (pos 1 ∷ pos 0 ∷ neg_ℤ (pos 1) ∷ pos 2 ∷ pos 0 ∷ neg_ℤ (pos 2) ∷ [])
 
@@ -150,17 +150,17 @@ two-moves-model =
 -- ---- the fits
 
 pub record ComputedFits : Type 0 where
-  pub printed : outcomeOf (marked 1) printed-counts ≡ succeeds 6 printed-model
-  pub no-calibrated : outcomeOf (marked 1) counts16 ≡ failsWith 6 16
-  pub singular : outcomeOf (marked 1) counts17 ≡ failsWith 6 17
-  pub unrepresentable : outcomeOf config19 counts19 ≡ failsWith 10 19
-  pub eliminated : outcomeOf three-buckets stay-counts ≡ succeeds 3 stay-model
-  pub two-rounds : outcomeOf (marked 1) two-moves ≡ succeeds 6 two-moves-model
+  pub printed : outcome_of (marked 1) printed-counts ≡ succeeds 6 printed-model
+  pub no-calibrated : outcome_of (marked 1) counts16 ≡ fails_with 6 16
+  pub singular : outcome_of (marked 1) counts17 ≡ fails_with 6 17
+  pub unrepresentable : outcome_of config19 counts19 ≡ fails_with 10 19
+  pub eliminated : outcome_of three-buckets stay-counts ≡ succeeds 3 stay-model
+  pub two-rounds : outcome_of (marked 1) two-moves ≡ succeeds 6 two-moves-model
   -- with one round it is 18
-  pub one-round : fittedWith 1 10 (marked 1) two-moves (nines 6) (ones 6) ≡ failsWith 6 18
+  pub one-round : fitted_with 1 10 (marked 1) two-moves (nines 6) (ones 6) ≡ fails_with 6 18
 
 pub fits-computed : ComputedFits
-unfolding judgedRows fitOf solutionOf adjusted estimateOf part dot largest summed shareAfter system pivotRow swapped cleared reduced columnSolved columnsSolved observations reachesIn mark_of sum_to someTo abs asGreat max isInfinite clamp plusZero half add sub mul div neg lt le eq is_nan round of_bits of_int to_bits
+unfolding judged_rows fit_of solution_of adjusted estimate_of part dot largest summed share_after system pivot_row swapped cleared reduced column_solved columns_solved observations reaches_in mark_of sum_to some_to abs as_great max is_infinite clamp plus_zero half add sub mul div neg lt le eq is_nan round of_bits of_int to_bits
 fits-computed =
     record {
       printed = refl;

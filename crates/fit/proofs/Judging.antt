@@ -12,24 +12,24 @@ use lib.Ieee.{Float}
 use lib.ListN.{length, get_or, length-append}
 use lib.Seq.{sets}
 use Rattle.basics.proofs.Stores.{sets-append, sets-whole}
-use Rattle.fit_marking.specs.Below.{someTo}
+use Rattle.fit_marking.specs.Below.{some_to}
 use Rattle.fit_marking.specs.Marks.{cells_of, observations, mark_of}
 use Rattle.fit_marking.proofs.Rows.{any-least}
 use Rattle.fit_marking.proofs.Below.{some-none, some_at, some-step, some_more}
-use Rattle.model.specs.Rows.{rowWords}
-use Rattle.model.specs.Status.{statusNumber}
+use Rattle.model.specs.Rows.{row_words}
+use Rattle.model.specs.Status.{status_number}
 use Rattle.model.specs.declared.StateEstimate.{StateEstimate}
 use Rattle.model.specs.declared.StateStatus.{StateStatus}
 use Rattle.fit_linear.specs.Inner.{from}
-use Rattle.fit_series.specs.Inner.{sum_at, shareAt, solvedG1}
+use Rattle.fit_series.specs.Inner.{sum_at, share_at, solved_g1}
 use Rattle.fit_system.specs.Inner.{Marks}
-use Rattle.quotes.specs.States.{bucketIn, spreadIn}
+use Rattle.quotes.specs.States.{bucket_in, spread_in}
 use Rattle.refusals.specs.declared.Check.TheVariants.{Fine, Refused}
 use Rattle.refusals.specs.declared.Refusal.TheVariants.{NoCalibratedState, Unrepresentable}
-use Rattle.fit_estimates.specs.Estimates.{estimateOf, solvedAt, representable}
+use Rattle.fit_estimates.specs.Estimates.{estimate_of, solved_at, representable}
 use Rattle.fit_estimates.specs.declared.Solved.{Solved}
-use Rattle.fit.specs.Fit.{judgedRows, table_of, fitAnswer}
-use Rattle.fit.specs.Inner.{givenIn, rowsIn}
+use Rattle.fit.specs.Fit.{judged_rows, table_of, fit_answer}
+use Rattle.fit.specs.Inner.{given_in, rows_in}
 
 -- ---- the rows that scratch holds
 
@@ -37,33 +37,33 @@ use Rattle.fit.specs.Inner.{givenIn, rowsIn}
 abbrev pub OfRows : ℕ → ℕ → ℕ → List ℕ → List ℕ → List ℕ → List ℕ → List Float → ((ℕ → StateEstimate) → Type 0) → Type 0
 OfRows n buckets tick stay moved marks mirrors scratch So =
     (least : ℕ) (totals : List ℤ) → Marks (cells_of n least stay moved) marks
-    → So (rowsIn n (givenIn n buckets tick least stay moved totals mirrors) scratch)
+    → So (rows_in n (given_in n buckets tick least stay moved totals mirrors) scratch)
 
 -- state i's row, made of what scratch has for it and its mirror, of its observations and of its mark
 pub row_made : (n buckets tick : ℕ) (stay moved marks mirrors : List ℕ) (scratch : List Float) (i : ℕ) → i < n
-    → {s : Solved} → s ≡ solvedAt (λ k. get_or mirrors i 0) (solvedG1 n scratch) (from (sum_at n) scratch) (from (shareAt n) scratch) i
+    → {s : Solved} → s ≡ solved_at (λ k. get_or mirrors i 0) (solved_g1 n scratch) (from (sum_at n) scratch) (from (share_at n) scratch) i
     → {o : ℕ} → o ≡ observations (cells_of n 0 stay moved) i
-    → {e : StateEstimate} → ((m : StateStatus) → get_or marks i 0 ≡ statusNumber m → e ≡ estimateOf tick (bucketIn buckets i + 1) (spreadIn buckets i) m o s)
+    → {e : StateEstimate} → ((m : StateStatus) → get_or marks i 0 ≡ status_number m → e ≡ estimate_of tick (bucket_in buckets i + 1) (spread_in buckets i) m o s)
     → OfRows n buckets tick stay moved marks mirrors scratch (λ rows. e ≡ rows i)
 row_made n buckets tick stay moved marks mirrors scratch i h is-s is-o is-e least totals m =
     let C = cells_of n least stay moved in
     is-e (mark_of C i) (m.numbers i h)
-    ∙ (λ j. estimateOf tick (bucketIn buckets i + 1) (spreadIn buckets i) (mark_of C i) ((is-o ∙ sym (any-least n least stay moved i)) j) (is-s j))
+    ∙ (λ j. estimate_of tick (bucket_in buckets i + 1) (spread_in buckets i) (mark_of C i) ((is-o ∙ sym (any-least n least stay moved i)) j) (is-s j))
 
 -- ---- judged
 
 -- the rows below i can be represented, and found says whether one is Calibrated
 pub record Seen (rows : ℕ → StateEstimate) (i : ℕ) (found : Bool) : Type 0 where
-  pub held : someTo i (λ k. not (representable (rows k))) ≡ false
-  pub found-is : found ≡ someTo i (λ k. eqb (rows k).status 0)
+  pub held : some_to i (λ k. not (representable (rows k))) ≡ false
+  pub found-is : found ≡ some_to i (λ k. eqb (rows k).status 0)
 
 pub seen_none : {rows : ℕ → StateEstimate} → Seen rows 0 false
 seen_none = record { held = some-none _; found-is = sym (some-none _) }
 
 module _ {rows : ℕ → StateEstimate} {i : ℕ} {found : Bool} (s : Seen rows i found) where
   module _ {e : StateEstimate} {r : Bool} (is : e ≡ rows i) (said : r ≡ representable e) where
-    pub judged-no : (n : ℕ) → i < n → not r ≡ true → Refused Unrepresentable ≡ fitAnswer (judgedRows n rows)
-    unfolding judgedRows
+    pub judged-no : (n : ℕ) → i < n → not r ≡ true → Refused Unrepresentable ≡ fit_answer (judged_rows n rows)
+    unfolding judged_rows
     judged-no n h fails = rw (some_at n (λ k. not (representable (rows k))) i h (ap (λ e. not (representable e)) (sym is) ∙ ap not (sym said) ∙ fails))
 
     pub seen_more : not r ≡ false → Seen rows (i + 1) (found || eqb e.status 0)
@@ -72,32 +72,32 @@ module _ {rows : ℕ → StateEstimate} {i : ℕ} {found : Bool} (s : Seen rows 
           held = some_more i (λ k. not (representable (rows k))) s.held (ap (λ e. not (representable e)) (sym is) ∙ ap not (sym said) ∙ holds);
           found-is =
               (λ j. s.found-is j || eqb (is j).status 0)
-              ∙ sym (ap (λ j. someTo j (λ k. eqb (rows k).status 0)) (add-one i) ∙ some-step i (λ k. eqb (rows k).status 0));
+              ∙ sym (ap (λ j. some_to j (λ k. eqb (rows k).status 0)) (add-one i) ∙ some-step i (λ k. eqb (rows k).status 0));
         }
 
   -- all n rows are seen
   module _ {n : ℕ} (all : i ≡ n) where
-    pub judged-none : not found ≡ true → Refused NoCalibratedState ≡ fitAnswer (judgedRows n rows)
-    unfolding judgedRows
+    pub judged-none : not found ≡ true → Refused NoCalibratedState ≡ fit_answer (judged_rows n rows)
+    unfolding judged_rows
     judged-none none = rw (← all, s.held, ← s.found-is, not-true found none)
 
-    pub judged-fine : not found ≡ false → Fine ≡ fitAnswer (judgedRows n rows)
-    unfolding judgedRows
+    pub judged-fine : not found ≡ false → Fine ≡ fit_answer (judged_rows n rows)
+    unfolding judged_rows
     judged-fine one = rw (← all, s.held, ← s.found-is, not-false found one)
 
 -- ---- written
 
 pub length-table : (n : ℕ) (rows : ℕ → StateEstimate) → length (table_of n rows) ≡ 7 * n
 length-table zero rows = refl
-length-table (suc n) rows = length-append (table_of n rows) (rowWords (rows n)) ∙ omega (arith, length-table n rows)
+length-table (suc n) rows = length-append (table_of n rows) (row_words (rows n)) ∙ omega (arith, length-table n rows)
 
 -- a row more
 pub table_more : (n i : ℕ) (rows : ℕ → StateEstimate) (e : StateEstimate) (l m : List ℕ) → e ≡ rows i → m ≡ sets l 0 (table_of i rows)
-    → sets m (7 * i) (rowWords e) ≡ sets l 0 (table_of (i + 1) rows)
+    → sets m (7 * i) (row_words e) ≡ sets l 0 (table_of (i + 1) rows)
 table_more n i rows e l m is-e is_m =
-    (λ j. sets (is_m j) (7 * i) (rowWords (is-e j)))
-    ∙ ap (λ k. sets (sets l 0 (table_of i rows)) k (rowWords (rows i))) (let q : 7 * i ≡ 0 + length (table_of i rows) = omega (arith, length-table i rows) in q)
-    ∙ sym (sets-append (table_of i rows) (rowWords (rows i)) l 0)
+    (λ j. sets (is_m j) (7 * i) (row_words (is-e j)))
+    ∙ ap (λ k. sets (sets l 0 (table_of i rows)) k (row_words (rows i))) (let q : 7 * i ≡ 0 + length (table_of i rows) = omega (arith, length-table i rows) in q)
+    ∙ sym (sets-append (table_of i rows) (row_words (rows i)) l 0)
     ∙ ap (λ k. sets l 0 (table_of k rows)) (sym (add-one i))
 
 pub table-whole : (n : ℕ) (rows : ℕ → StateEstimate) (l : List ℕ) → length l ≡ 7 * n → sets l 0 (table_of n rows) ≡ table_of n rows
@@ -111,7 +111,7 @@ pub writing-none : {rows : ℕ → StateEstimate} {l : List ℕ} → Writing row
 writing-none = record { stored = refl }
 
 module _ {rows : ℕ → StateEstimate} {l : List ℕ} {i : ℕ} {m : List ℕ} (w : Writing rows l i m) where
-  pub writing_more : {e : StateEstimate} {after : List ℕ} → e ≡ rows i → after ≡ sets m (7 * i) (rowWords e) → Writing rows l (i + 1) after
+  pub writing_more : {e : StateEstimate} {after : List ℕ} → e ≡ rows i → after ≡ sets m (7 * i) (row_words e) → Writing rows l (i + 1) after
   writing_more {e} is put = record { stored = put ∙ table_more (i + 1) i rows e l m is w.stored }
 
   pub writing-all : {n : ℕ} → i ≡ n → length l ≡ 7 * n → m ≡ table_of n rows

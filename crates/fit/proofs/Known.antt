@@ -9,12 +9,12 @@ use lib.Dec.{eqb}
 use lib.IntN.{ℤ, pos, negsuc, nat_abs}
 use lib.ListN.{length, get_or, replicate}
 use lib.Ieee.{Float, binary64, in_float}
-use Rattle.floats.specs.Floats.{posZero, exactWhole}
+use Rattle.floats.specs.Floats.{pos_zero, exact_whole}
 use Rattle.basics.specs.Lists.{any, sum}
 use Rattle.basics.proofs.Tests.{both, neither}
 use Rattle.basics.proofs.Anys.{none-at}
-use Rattle.basics.specs.Domain.{counterLimit, cellLimit}
-use Rattle.refusals.specs.Refusals.{refuseIf, first_of, firstFrom}
+use Rattle.basics.specs.Domain.{counter_limit, cell_limit}
+use Rattle.refusals.specs.Refusals.{refuse_if, first_of, first_from}
 use Rattle.refusals.specs.declared.Check.{Check}
 use Rattle.refusals.specs.declared.Check.TheVariants.{Fine, Refused}
 use Rattle.refusals.specs.declared.Refusal.{Refusal}
@@ -22,30 +22,30 @@ use Rattle.refusals.proofs.Refusals.{if-fine, first_fine, from-fine}
 use Rattle.config.specs.Configuration.{states}
 use Rattle.config.specs.Inner.{Valid}
 use Rattle.config.specs.declared.MicroPriceConfig.{MicroPriceConfig}
-use Rattle.quotes.specs.States.{mirrorOf}
+use Rattle.quotes.specs.States.{mirror_of}
 use Rattle.quotes.proofs.States.{mirror-below, mirror-involution}
-use Rattle.tally.specs.Entries.{overTotal}
+use Rattle.tally.specs.Entries.{over_total}
 use Rattle.tally.specs.Events.{Counts}
-use Rattle.tally.specs.Limits.{overCounter}
+use Rattle.tally.specs.Limits.{over_counter}
 use Rattle.tally.specs.Rules.{Memory}
-use Rattle.calibrator.specs.Observe.{checkMemory}
+use Rattle.calibrator.specs.Observe.{check_memory}
 use Rattle.calibrator.specs.declared.Previous.{Previous}
 use Rattle.calibrator.proofs.Lengths.{tables-known, lengths-known}
-use Rattle.count_check.specs.Mirrors.{storedOver, totalMirrored, cellsAlike, cellMirrored, rowMirrored, checkState, isTwice, checkMirrored}
+use Rattle.count_check.specs.Mirrors.{stored_over, total_mirrored, cells_alike, cell_mirrored, row_mirrored, check_state, is_twice, check_mirrored}
 use Rattle.count_check.proofs.Walks.{all-at}
 use Rattle.fit_marking.specs.Mirror.{CellsMirror}
 use Rattle.fit_series.specs.Inner.{Scratch}
 use Rattle.fit_system.specs.Inner.{Exact}
 use Rattle.fit_system.specs.Rows.{total_of}
-use Rattle.fit.specs.Fit.{fitOf, given_of, wrongFitLengths, fitRefusal, endFit, fitUnless, fittedWith}
-use Rattle.fit.specs.Inner.{givenIn, Usable, FitEnds}
+use Rattle.fit.specs.Fit.{fit_of, given_of, wrong_fit_lengths, fit_refusal, end_fit, fit_unless, fitted_with}
+use Rattle.fit.specs.Inner.{given_in, Usable, FitEnds}
 use Rattle.fit.proofs.Ends.{ends_same}
 
 -- a total within its limit is exact as a float
-total-exact : (z : ℤ) → overTotal z ≡ false → in_float binary64 z ≡ true
+total-exact : (z : ℤ) → over_total z ≡ false → in_float binary64 z ≡ true
 unfolding in_float
-total-exact (pos n) e = le-leb n exactWhole (leb-true n cellLimit (not-false _ e))
-total-exact (negsuc n) e = lt-ltb n exactWhole (leb-true (nat_abs (negsuc n)) cellLimit (not-false _ e))
+total-exact (pos n) e = le-leb n exact_whole (leb-true n cell_limit (not-false _ e))
+total-exact (negsuc n) e = lt-ltb n exact_whole (leb-true (nat_abs (negsuc n)) cell_limit (not-false _ e))
 
 pub record Fittable (c : MicroPriceConfig) (m : Memory Previous) (scratch model : ℕ) : Type 0 where
   pub conf : Valid c
@@ -54,15 +54,15 @@ pub record Fittable (c : MicroPriceConfig) (m : Memory Previous) (scratch model 
   pub totals-cells : length m.counts.tables.totals ≡ states c
   pub scratch-long : scratch ≡ states c * (2 * states c + 10)
   pub model-long : model ≡ 7 * states c
-  pub mirrored : checkMirrored c m.counts ≡ Fine
+  pub mirrored : check_mirrored c m.counts ≡ Fine
 
-pub fit-known : (c : MicroPriceConfig) (m : Memory Previous) (scratch model : ℕ) → fitRefusal c m scratch model ≡ Fine → Fittable c m scratch model
+pub fit-known : (c : MicroPriceConfig) (m : Memory Previous) (scratch model : ℕ) → fit_refusal c m scratch model ≡ Fine → Fittable c m scratch model
 fit-known c m scratch model e =
     let s = length m.counts.tables.stay in
     let d = length m.counts.tables.moved in
     let t = length m.counts.tables.totals in
-    let a = first_fine (checkMemory c m) (first_of (refuseIf (wrongFitLengths (states c) scratch model) 7) (checkMirrored c m.counts)) e in
-    let b = first_fine (refuseIf (wrongFitLengths (states c) scratch model) 7) (checkMirrored c m.counts) a.1 in
+    let a = first_fine (check_memory c m) (first_of (refuse_if (wrong_fit_lengths (states c) scratch model) 7) (check_mirrored c m.counts)) e in
+    let b = first_fine (refuse_if (wrong_fit_lengths (states c) scratch model) 7) (check_mirrored c m.counts) a.1 in
     let r = tables-known c s d t a.0 in
     let z = lengths-known (states c) s d t r.1 in
     let w = neither (not (eqb scratch (states c * (2 * states c + 10)))) (not (eqb model (7 * states c))) (if-fine _ 7 refl b.0) in
@@ -78,22 +78,22 @@ fit-known c m scratch model e =
 
 -- 6 and 11: the cells together are at most twice the limit of pairs, each total within its limit
 pub record Limited (k : Counts) : Type 0 where
-  pub cells-most : sum k.tables.stay + sum k.tables.moved ≤ 2 * counterLimit
-  pub totals-most : any overTotal k.tables.totals ≡ false
+  pub cells-most : sum k.tables.stay + sum k.tables.moved ≤ 2 * counter_limit
+  pub totals-most : any over_total k.tables.totals ≡ false
 
-pub limited-of : (c : MicroPriceConfig) (k : Counts) → checkMirrored c k ≡ Fine → Limited k
+pub limited-of : (c : MicroPriceConfig) (k : Counts) → check_mirrored c k ≡ Fine → Limited k
 limited-of c k e =
-    let walk = firstFrom (checkState (states c) (mirrorOf c.imbalance_buckets) k.tables) 0 (states c) in
-    let a = first_fine (refuseIf (storedOver k) 6) (first_of walk (refuseIf (not (isTwice k.pairs k.tables)) 11)) e in
-    let b = first_fine walk (refuseIf (not (isTwice k.pairs k.tables)) 11) a.1 in
-    let o = neither (overCounter k.pairs || any overCounter k.skips) (any overTotal k.tables.totals) (if-fine _ 6 refl a.0) in
-    let p = ltb-false counterLimit k.pairs (neither (overCounter k.pairs) (any overCounter k.skips) o.0).0 in
+    let walk = first_from (check_state (states c) (mirror_of c.imbalance_buckets) k.tables) 0 (states c) in
+    let a = first_fine (refuse_if (stored_over k) 6) (first_of walk (refuse_if (not (is_twice k.pairs k.tables)) 11)) e in
+    let b = first_fine walk (refuse_if (not (is_twice k.pairs k.tables)) 11) a.1 in
+    let o = neither (over_counter k.pairs || any over_counter k.skips) (any over_total k.tables.totals) (if-fine _ 6 refl a.0) in
+    let p = ltb-false counter_limit k.pairs (neither (over_counter k.pairs) (any over_counter k.skips) o.0).0 in
     let t = eqb-true (sum k.tables.stay + sum k.tables.moved) (2 * k.pairs) (not-false _ (if-fine _ 11 refl b.1)) in
     record { cells-most = omega arith; totals-most = o.1 }
 
 -- 10: the cells equal their mirrors'
 pub mirrored-of : {c : MicroPriceConfig} {m : Memory Previous} {scratch model : ℕ} → Fittable c m scratch model
-    → CellsMirror (given_of c m.counts).cells (mirrorOf c.imbalance_buckets)
+    → CellsMirror (given_of c m.counts).cells (mirror_of c.imbalance_buckets)
 mirrored-of {c} {m} f =
     let n = c.imbalance_buckets in
     let some : 1 ≤ n = omega (arith, f.conf.n-least) in
@@ -108,25 +108,25 @@ mirrored-of {c} {m} f =
     N = states c
 
     mirror : ℕ → ℕ
-    mirror = mirrorOf c.imbalance_buckets
+    mirror = mirror_of c.imbalance_buckets
 
     k : Counts
     k = m.counts
 
-    walked : (i : ℕ) → i < N → checkState N mirror k.tables i ≡ Fine
+    walked : (i : ℕ) → i < N → check_state N mirror k.tables i ≡ Fine
     walked i h =
-        let walk = firstFrom (checkState N mirror k.tables) 0 N in
-        let a = first_fine (refuseIf (storedOver k) 6) (first_of walk (refuseIf (not (isTwice k.pairs k.tables)) 11)) f.mirrored in
-        let b = first_fine walk (refuseIf (not (isTwice k.pairs k.tables)) 11) a.1 in
-        from-fine (checkState N mirror k.tables) 0 N b.0 i (omega arith) (omega arith)
+        let walk = first_from (check_state N mirror k.tables) 0 N in
+        let a = first_fine (refuse_if (stored_over k) 6) (first_of walk (refuse_if (not (is_twice k.pairs k.tables)) 11)) f.mirrored in
+        let b = first_fine walk (refuse_if (not (is_twice k.pairs k.tables)) 11) a.1 in
+        from-fine (check_state N mirror k.tables) 0 N b.0 i (omega arith) (omega arith)
 
     cells : (i j : ℕ) → i < N → j < N
-        → (cellsAlike k.tables.stay (i * N + j) (mirror i * N + mirror j) ≡ true)
-        × (cellsAlike k.tables.moved (i * N + j) (mirror i * N + mirror j) ≡ true)
+        → (cells_alike k.tables.stay (i * N + j) (mirror i * N + mirror j) ≡ true)
+        × (cells_alike k.tables.moved (i * N + j) (mirror i * N + mirror j) ≡ true)
     cells i j hi hj =
-        let row = (first_fine (refuseIf (not (totalMirrored k.tables.totals i (mirror i))) 9) (refuseIf (not (rowMirrored N mirror k.tables i)) 10)
+        let row = (first_fine (refuse_if (not (total_mirrored k.tables.totals i (mirror i))) 9) (refuse_if (not (row_mirrored N mirror k.tables i)) 10)
         (walked i hi)).1 in
-        both _ _ (all-at (cellMirrored N mirror k.tables i) 0 N j (not-false _ (if-fine _ 10 refl row)) (omega arith) (omega arith))
+        both _ _ (all-at (cell_mirrored N mirror k.tables i) 0 N j (not-false _ (if-fine _ 10 refl row)) (omega arith) (omega arith))
 
 pub exact-of : {c : MicroPriceConfig} {m : Memory Previous} {scratch model : ℕ} → Fittable c m scratch model
     → Exact (states c) m.counts.tables.stay m.counts.tables.moved m.counts.tables.totals
@@ -138,11 +138,11 @@ exact-of {c} {m} f =
       totals-long = f.totals-cells;
       totals-exact =
           λ i h. total-exact (total_of m.counts.tables.totals i)
-          (none-at overTotal (pos 0) m.counts.tables.totals l.totals-most i (rw f.totals-cells h));
+          (none-at over_total (pos 0) m.counts.tables.totals l.totals-most i (rw f.totals-cells h));
     }
 
 pub usable-of : {c : MicroPriceConfig} {m : Memory Previous} {scratch model : ℕ} → Fittable c m scratch model → (ms : List ℕ) → 256 ≤ length ms
-    → ((i : ℕ) → i < states c → get_or ms i 0 ≡ mirrorOf c.imbalance_buckets i)
+    → ((i : ℕ) → i < states c → get_or ms i 0 ≡ mirror_of c.imbalance_buckets i)
     → Usable (states c) c.imbalance_buckets c.tick_size m.counts.tables.stay m.counts.tables.moved ms
 usable-of {c} {m} f ms h e =
     let v = f.conf in
@@ -162,24 +162,24 @@ scratch-of l f = record { few = f.conf.states-most; enough = omega (arith, f.scr
 
 -- what is refused before the fit changes nothing
 pub whole-refused : (rounds moves : ℕ) (c : MicroPriceConfig) (m : Memory Previous) (model : List ℕ) (scratch : List Float) {k : Check} {r : Refusal}
-    → k ≡ fitRefusal c m (length scratch) (length model) → k ≡ Refused r → endFit k model scratch ≡ fittedWith rounds moves c m model scratch
+    → k ≡ fit_refusal c m (length scratch) (length model) → k ≡ Refused r → end_fit k model scratch ≡ fitted_with rounds moves c m model scratch
 whole-refused rounds moves c m model scratch is answer-is =
-    (λ j. endFit (answer-is j) model scratch)
-    ∙ sym (ap (λ k. fitUnless k (states c) (fitOf rounds moves (given_of c m.counts)) model scratch) (sym is ∙ answer-is))
+    (λ j. end_fit (answer-is j) model scratch)
+    ∙ sym (ap (λ k. fit_unless k (states c) (fit_of rounds moves (given_of c m.counts)) model scratch) (sym is ∙ answer-is))
 
 pub whole : (rounds moves : ℕ) (c : MicroPriceConfig) (m : Memory Previous) (model after : List ℕ) (scratch left : List Float) (r : Check) (n : ℕ) (ms : List ℕ)
     → n ≡ states c
-    → fitRefusal c m (length scratch) (length model) ≡ Fine
-    → ((i : ℕ) → i < states c → get_or ms i 0 ≡ mirrorOf c.imbalance_buckets i)
+    → fit_refusal c m (length scratch) (length model) ≡ Fine
+    → ((i : ℕ) → i < states c → get_or ms i 0 ≡ mirror_of c.imbalance_buckets i)
     → FitEnds n
-    (fitOf rounds moves
-    (givenIn n c.imbalance_buckets c.tick_size c.min_state_observations m.counts.tables.stay m.counts.tables.moved
+    (fit_of rounds moves
+    (given_in n c.imbalance_buckets c.tick_size c.min_state_observations m.counts.tables.stay m.counts.tables.moved
     m.counts.tables.totals ms)) model r after
-    → left ≡ replicate (length scratch) posZero
-    → endFit r after left ≡ fittedWith rounds moves c m model scratch
+    → left ≡ replicate (length scratch) pos_zero
+    → end_fit r after left ≡ fitted_with rounds moves c m model scratch
 whole rounds moves c m model after scratch left r n ms is-n fine same ends clean =
-    let G = givenIn (states c) c.imbalance_buckets c.tick_size c.min_state_observations m.counts.tables.stay m.counts.tables.moved
+    let G = given_in (states c) c.imbalance_buckets c.tick_size c.min_state_observations m.counts.tables.stay m.counts.tables.moved
     m.counts.tables.totals ms in
-    let f = ends_same G (mirrorOf c.imbalance_buckets) same rounds moves model after r (rw is-n at ends) in
-    (λ j. endFit (f.answers j) (f.models j) (clean j))
-    ∙ sym (ap (λ k. fitUnless k (states c) (fitOf rounds moves (given_of c m.counts)) model scratch) fine)
+    let f = ends_same G (mirror_of c.imbalance_buckets) same rounds moves model after r (rw is-n at ends) in
+    (λ j. end_fit (f.answers j) (f.models j) (clean j))
+    ∙ sym (ap (λ k. fit_unless k (states c) (fit_of rounds moves (given_of c m.counts)) model scratch) fine)

@@ -18,38 +18,38 @@ use lib.Ieee.Bits.{of_bits-fits}
 use lib.Ieee.Fits.{down_pos, add-fits, cond-fits}
 use lib.Ieee.Scale.{finite}
 use Rattle.basics.proofs.Tests.{zero-not-one}
-use Rattle.floats.specs.Floats.{posZero, one, abs, half, halfSpread, clamp, exactWhole}
+use Rattle.floats.specs.Floats.{pos_zero, one, abs, half, half_spread, clamp, exact_whole}
 use Rattle.floats.proofs.Signs.{abs-plus, plus-finite}
 use Rattle.floats.proofs.Whole.{half-exact}
 use Rattle.floats.proofs.Within.{value-finite, values-le}
-use Rattle.refusals.specs.Refusals.{number_of, refusal, checkNumber}
+use Rattle.refusals.specs.Refusals.{number_of, refusal, check_number}
 use Rattle.refusals.specs.declared.Check.{Check}
 use Rattle.refusals.specs.declared.Check.TheVariants.{Fine, Refused}
 use Rattle.refusals.specs.declared.Refusal.{Refusal}
 use Rattle.refusals.proofs.Refusals.{if-fine, first_fine}
-use Rattle.config.specs.Configuration.{states, valid, checkConfig}
+use Rattle.config.specs.Configuration.{states, valid, check_config}
 use Rattle.config.specs.declared.MicroPriceConfig.{MicroPriceConfig}
-use Rattle.quotes.specs.States.{mirrorOf, spreadIn}
+use Rattle.quotes.specs.States.{mirror_of, spread_in}
 use Rattle.quotes.proofs.States.{mirror-below, mirror-keeps-spread}
 use Rattle.quotes.proofs.Widths.{width-most}
 use Rattle.tally.specs.Rules.{Memory}
-use Rattle.calibrator.specs.Observe.{checkMemory}
+use Rattle.calibrator.specs.Observe.{check_memory}
 use Rattle.calibrator.specs.declared.Previous.{Previous}
-use Rattle.model.specs.Rows.{rowWords, row_at, plusZeros}
+use Rattle.model.specs.Rows.{row_words, row_at, plus_zeros}
 use Rattle.model.specs.declared.StateEstimate.{StateEstimate}
 use Rattle.model.proofs.Rows.{Held, row_back, row-elsewhere}
-use Rattle.fit_marking.specs.Below.{someTo}
+use Rattle.fit_marking.specs.Below.{some_to}
 use Rattle.fit_marking.specs.Marks.{Cells}
 use Rattle.fit_marking.proofs.Below.{some-not}
 use Rattle.fit_linear.specs.Arithmetic.{rounded}
-use Rattle.fit_linear.specs.Elimination.{Elimination, solved, singular, matrixOf, gaussJordan}
+use Rattle.fit_linear.specs.Elimination.{Elimination, solved, singular, matrix_of, gauss_jordan}
 use Rattle.fit_linear.proofs.Binary64.{NumbersFit, CellsFit}
-use Rattle.fit_series.specs.Series.{Series, converged, notConverged, sumSeries, shareAfter, fallbackWithinMoves}
-use Rattle.fit_system.specs.Rows.{used, systemOf}
-use Rattle.fit_system.specs.Solution.{Solution, solution, unsolved, summedUp, solutionFrom, solutionOf}
+use Rattle.fit_series.specs.Series.{Series, converged, not_converged, sum_series, share_after, fallback_within}
+use Rattle.fit_system.specs.Rows.{used, system_of}
+use Rattle.fit_system.specs.Solution.{Solution, solution, unsolved, summed_up, solution_from, solution_of}
 use Rattle.fit_system.proofs.Binary64.{system-solved-fits}
 use Rattle.fit_estimates.specs.Estimates.{Given, estimate, representable}
-use Rattle.fit.specs.Fit.{Fit, fitted, refused, judgedRows, fitFrom, fitOf, given_of, fitRefusal, table_of, fitAnswer, fitUnless, fittedWith}
+use Rattle.fit.specs.Fit.{Fit, fitted, refused, judged_rows, fit_from, fit_of, given_of, fit_refusal, table_of, fit_answer, fit_unless, fitted_with}
 use Rattle.fit.specs.Models.{RowsOpposite, Inside, RowOf, Written}
 use Rattle.fit.proofs.Judging.{length-table, table_more, table-whole}
 use Rattle.fit.proofs.Known.{Fittable, fit-known, mirrored-of}
@@ -66,36 +66,36 @@ record Clamped (x : Float) : Type 0 where
 -- the shares are such, or the number is 16 to 19
 abbrev Kept : Solution → Type 0
 Kept (solution G1 sum share) = (i : ℕ) → Clamped (share i)
-Kept (unsolved k) = (16 ≤ checkNumber (refusal k)) × (checkNumber (refusal k) ≤ 19)
+Kept (unsolved k) = (16 ≤ check_number (refusal k)) × (check_number (refusal k) ≤ 19)
 
 clamp-fits : (x : Float) → T (fits binary64 x) → T (fits binary64 (clamp x))
 unfolding clamp
 clamp-fits x h =
-    cond-fits binary64 (lt x posZero) posZero (cond (lt one x) one x) (of_bits-fits binary64 0)
+    cond-fits binary64 (lt x pos_zero) pos_zero (cond (lt one x) one x) (of_bits-fits binary64 0)
     (cond-fits binary64 (lt one x) one x (of_bits-fits binary64 0x3ff0_0000_0000_0000) h)
 
 -- with no round the share is F, with more a sum
-share-fits : (n : ℕ) (B : ℕ → ℕ → Float) (F : ℕ → Float) → NumbersFit F → (moves : ℕ) → NumbersFit (shareAfter rounded n B F moves)
-unfolding shareAfter
+share-fits : (n : ℕ) (B : ℕ → ℕ → Float) (F : ℕ → Float) → NumbersFit F → (moves : ℕ) → NumbersFit (share_after rounded n B F moves)
+unfolding share_after
 share-fits n B F h zero i = h i
 share-fits n B F h (suc moves) i = add-fits binary64 (F i) _
 
-share-clamped : (n : ℕ) (B : ℕ → ℕ → Float) (F : ℕ → Float) → NumbersFit F → (moves i : ℕ) → Clamped (fallbackWithinMoves rounded n B F moves i)
-share-clamped n B F h moves i = record { of = shareAfter rounded n B F moves i; is = refl; fit = clamp-fits _ (share-fits n B F h moves i) }
+share-clamped : (n : ℕ) (B : ℕ → ℕ → Float) (F : ℕ → Float) → NumbersFit F → (moves i : ℕ) → Clamped (fallback_within rounded n B F moves i)
+share-clamped n B F h moves i = record { of = share_after rounded n B F moves i; is = refl; fit = clamp-fits _ (share-fits n B F h moves i) }
 
-summed_kept : (G1 share : ℕ → Float) (s : Series Float) → ((i : ℕ) → Clamped (share i)) → Kept (summedUp G1 share s)
+summed_kept : (G1 share : ℕ → Float) (s : Series Float) → ((i : ℕ) → Clamped (share i)) → Kept (summed_up G1 share s)
 summed_kept G1 share (converged sum term) h = h
-summed_kept G1 share (notConverged sum term) h = (omega arith, omega arith)
+summed_kept G1 share (not_converged sum term) h = (omega arith, omega arith)
 
-solution-kept : (rounds moves : ℕ) (C : Cells) (total : ℕ → ℤ) → Kept (solutionOf rounds moves C total)
-unfolding solutionOf
-solution-kept rounds moves C total = go (gaussJordan rounded C.states (systemOf C total)) (system-solved-fits C total)
+solution-kept : (rounds moves : ℕ) (C : Cells) (total : ℕ → ℤ) → Kept (solution_of rounds moves C total)
+unfolding solution_of
+solution-kept rounds moves C total = go (gauss_jordan rounded C.states (system_of C total)) (system-solved-fits C total)
   where
-    go : (a : Elimination Float) → CellsFit (matrixOf a) → Kept (solutionFrom C.states rounds moves a)
+    go : (a : Elimination Float) → CellsFit (matrix_of a) → Kept (solution_from C.states rounds moves a)
     go (singular A) h = (omega arith, omega arith)
     go (solved A) h =
         let B : ℕ → ℕ → Float = λ i j. A i (C.states + 2 + j) in
-        summed_kept (λ i. A i C.states) _ (sumSeries rounded C.states B (λ i. A i C.states) rounds)
+        summed_kept (λ i. A i C.states) _ (sum_series rounded C.states B (λ i. A i C.states) rounds)
         (share-clamped C.states B (λ i. A i (C.states + 1)) (λ i. h i (C.states + 1)) moves)
 
 -- ---- the fit
@@ -112,11 +112,11 @@ record Found (G : Given) (f : Fit) : Type 0 where
 -- or the number of its refusal
 abbrev Ended : Given → Fit → Type 0
 Ended G (fitted rows) = Found G (fitted rows)
-Ended G (refused k) = (16 ≤ checkNumber (refusal k)) × (checkNumber (refusal k) ≤ 19)
+Ended G (refused k) = (16 ≤ check_number (refusal k)) × (check_number (refusal k) ≤ 19)
 
-judged-ended : (G : Given) (G1 sum share : ℕ → Float) → ((i : ℕ) → Clamped (share i)) → Ended G (judgedRows G.cells.states (estimate G G1 sum share))
-unfolding judgedRows
-judged-ended G G1 sum share h = go (someTo N (λ i. not (representable (rows i)))) refl (someTo N (λ i. eqb (rows i).status 0))
+judged-ended : (G : Given) (G1 sum share : ℕ → Float) → ((i : ℕ) → Clamped (share i)) → Ended G (judged_rows G.cells.states (estimate G G1 sum share))
+unfolding judged_rows
+judged-ended G G1 sum share h = go (some_to N (λ i. not (representable (rows i)))) refl (some_to N (λ i. eqb (rows i).status 0))
   where
     N : ℕ
     N = G.cells.states
@@ -124,7 +124,7 @@ judged-ended G G1 sum share h = go (someTo N (λ i. not (representable (rows i))
     rows : ℕ → StateEstimate
     rows = estimate G G1 sum share
 
-    go : (s : Bool) → someTo N (λ i. not (representable (rows i))) ≡ s → (t : Bool) → Ended G (cond s (refused 19) (cond t (fitted rows) (refused 16)))
+    go : (s : Bool) → some_to N (λ i. not (representable (rows i))) ≡ s → (t : Bool) → Ended G (cond s (refused 19) (cond t (fitted rows) (refused 16)))
     go true e t = (omega arith, omega arith)
     go false e true =
         record {
@@ -137,12 +137,12 @@ judged-ended G G1 sum share h = go (someTo N (λ i. not (representable (rows i))
         }
     go false e false = (omega arith, omega arith)
 
-fit-ended : (rounds moves : ℕ) (G : Given) → Ended G (fitOf rounds moves G)
-unfolding fitOf
+fit-ended : (rounds moves : ℕ) (G : Given) → Ended G (fit_of rounds moves G)
+unfolding fit_of
 fit-ended rounds moves G =
-    go (someTo G.cells.states (used G.cells)) (solutionOf rounds moves G.cells G.total) (solution-kept rounds moves G.cells G.total)
+    go (some_to G.cells.states (used G.cells)) (solution_of rounds moves G.cells G.total) (solution-kept rounds moves G.cells G.total)
   where
-    go : (u : Bool) (s : Solution) → Kept s → Ended G (cond u (fitFrom G s) (refused 16))
+    go : (u : Bool) (s : Solution) → Kept s → Ended G (cond u (fit_from G s) (refused 16))
     go true (solution G1 sum share) k = judged-ended G G1 sum share k
     go true (unsolved n) k = k
     go false s k = (omega arith, omega arith)
@@ -150,7 +150,7 @@ fit-ended rounds moves G =
 -- ---- the table
 
 module _ (rows : ℕ → StateEstimate) (l : List ℕ) where
-  rows-set : (n : ℕ) → 7 * n ≤ length l → ((i : ℕ) → i < n → Held (rows i)) → (i : ℕ) → i < n → row_at (sets l 0 (table_of n rows)) i ≡ plusZeros (rows i)
+  rows-set : (n : ℕ) → 7 * n ≤ length l → ((i : ℕ) → i < n → Held (rows i)) → (i : ℕ) → i < n → row_at (sets l 0 (table_of n rows)) i ≡ plus_zeros (rows i)
   rows-set zero r h i b = absurd (omega arith)
   rows-set (suc n) r h i b =
       ap (λ (t : List ℕ). row_at t i) (ap (λ (k : ℕ). sets l 0 (table_of k rows)) (sym (add-one n)) ∙ sym (table_more n n rows (rows n) l before refl refl))
@@ -159,13 +159,13 @@ module _ (rows : ℕ → StateEstimate) (l : List ℕ) where
       before : List ℕ
       before = sets l 0 (table_of n rows)
 
-      go : (i < n → row_at before i ≡ plusZeros (rows i)) → (i ≡ n) ⊎ (i < n) → row_at (sets before (7 * n) (rowWords (rows n))) i ≡ plusZeros (rows i)
+      go : (i < n → row_at before i ≡ plus_zeros (rows i)) → (i ≡ n) ⊎ (i < n) → row_at (sets before (7 * n) (row_words (rows n))) i ≡ plus_zeros (rows i)
       go earlier (inl e) =
-          subst (λ (k : ℕ). row_at (sets before (7 * n) (rowWords (rows n))) k ≡ plusZeros (rows k)) (sym e)
+          subst (λ (k : ℕ). row_at (sets before (7 * n) (row_words (rows n))) k ≡ plus_zeros (rows k)) (sym e)
           (row_back before n (rows n) (h n (omega arith)) (omega (arith, length-sets l 0 (table_of n rows))))
       go earlier (inr g) = row-elsewhere before n i (rows n) (λ q. omega arith) ∙ earlier g
 
-table-rows : (n : ℕ) (rows : ℕ → StateEstimate) → ((i : ℕ) → i < n → Held (rows i)) → (i : ℕ) → i < n → row_at (table_of n rows) i ≡ plusZeros (rows i)
+table-rows : (n : ℕ) (rows : ℕ → StateEstimate) → ((i : ℕ) → i < n → Held (rows i)) → (i : ℕ) → i < n → row_at (table_of n rows) i ≡ plus_zeros (rows i)
 table-rows n rows h i b =
     let l : List ℕ = replicate (7 * n) 0 in
     let long : length l ≡ 7 * n = length-replicate (7 * n) 0 in
@@ -174,21 +174,21 @@ table-rows n rows h i b =
 
 -- ---- the operation
 
-fine-parts : (k : Check) (n : ℕ) (f : Fit) (t : List ℕ) (l : List Float) → (fitUnless k n f t l).answer ≡ Fine → (k ≡ Fine) × (fitAnswer f ≡ Fine)
+fine-parts : (k : Check) (n : ℕ) (f : Fit) (t : List ℕ) (l : List Float) → (fit_unless k n f t l).answer ≡ Fine → (k ≡ Fine) × (fit_answer f ≡ Fine)
 fine-parts Fine n f t l e = (refl, e)
 fine-parts (Refused r) n f t l e = absurd (zero-not-one cc)
 
-found_of : (G : Given) (f : Fit) → Ended G f → fitAnswer f ≡ Fine → Found G f
+found_of : (G : Given) (f : Fit) → Ended G f → fit_answer f ≡ Fine → Found G f
 found_of G (fitted rows) e a = e
-found_of G (refused k) e a = let none : checkNumber (refusal k) ≡ 0 = ap checkNumber a in absurd (omega (arith, e.0))
+found_of G (refused k) e a = let none : check_number (refusal k) ≡ 0 = ap check_number a in absurd (omega (arith, e.0))
 
-inside_of : (c : MicroPriceConfig) (i : ℕ) (x : Float) → c.tick_size * spreadIn c.imbalance_buckets i < exactWhole → T (finite x)
-    → T (le (abs x) (halfSpread c.tick_size (spreadIn c.imbalance_buckets i))) → Inside c i x
+inside_of : (c : MicroPriceConfig) (i : ℕ) (x : Float) → c.tick_size * spread_in c.imbalance_buckets i < exact_whole → T (finite x)
+    → T (le (abs x) (half_spread c.tick_size (spread_in c.imbalance_buckets i))) → Inside c i x
 unfolding abs
 inside_of c i nan w f h = absurd f
 inside_of c i (inf s) w f h = absurd f
 inside_of c i (fin s m d) w f h =
-    let width = c.tick_size * spreadIn c.imbalance_buckets i in
+    let width = c.tick_size * spread_in c.imbalance_buckets i in
     record {
       half-most = h;
       num = m * up d;
@@ -204,20 +204,20 @@ module _ (rounds moves : ℕ) (c : MicroPriceConfig) (m : Memory Previous) (t₀
   G = given_of c m.counts
 
   abbrev fit : Fit
-  fit = fitOf rounds moves G
+  fit = fit_of rounds moves G
 
   abbrev table : List ℕ
-  table = (fittedWith rounds moves c m t₀ l).model
+  table = (fitted_with rounds moves c m t₀ l).model
 
-  module _ (fine : (fittedWith rounds moves c m t₀ l).answer ≡ Fine) where
-    parts : (fitRefusal c m (length l) (length t₀) ≡ Fine) × (fitAnswer fit ≡ Fine)
-    parts = fine-parts (fitRefusal c m (length l) (length t₀)) (states c) fit t₀ l fine
+  module _ (fine : (fitted_with rounds moves c m t₀ l).answer ≡ Fine) where
+    parts : (fit_refusal c m (length l) (length t₀) ≡ Fine) × (fit_answer fit ≡ Fine)
+    parts = fine-parts (fit_refusal c m (length l) (length t₀)) (states c) fit t₀ l fine
 
     -- the configuration is valid
     pub fit-valid : valid c ≡ true
     fit-valid =
-        let enough = (first_fine (checkMemory c m) _ parts.0).0 in
-        not-false (valid c) (if-fine (not (valid c)) 1 refl (first_fine (checkConfig c) _ enough).0)
+        let enough = (first_fine (check_memory c m) _ parts.0).0 in
+        not-false (valid c) (if-fine (not (valid c)) 1 refl (first_fine (check_config c) _ enough).0)
 
     known : Fittable c m (length l) (length t₀)
     known = fit-known c m (length l) (length t₀) parts.0
@@ -229,9 +229,9 @@ module _ (rounds moves : ℕ) (c : MicroPriceConfig) (m : Memory Previous) (t₀
     rows = estimate G found.G1 found.sum found.share
 
     table_is : table ≡ table_of (states c) rows
-    table_is = λ j. (fitUnless (parts.0 j) (states c) (found.is j) t₀ l).model
+    table_is = λ j. (fit_unless (parts.0 j) (states c) (found.is j) t₀ l).model
 
-    rows_are : (i : ℕ) → i < states c → row_at table i ≡ plusZeros (rows i)
+    rows_are : (i : ℕ) → i < states c → row_at table i ≡ plus_zeros (rows i)
     rows_are i h =
         ap (λ (t : List ℕ). row_at t i) table_is
         ∙ table-rows (states c) rows (λ k b. held_of G found.G1 found.sum found.share k (found.shares k).fit) i h
@@ -257,7 +257,7 @@ module _ (rounds moves : ℕ) (c : MicroPriceConfig) (m : Memory Previous) (t₀
           share-most = s.1;
           share-fallback = row-fallback G found.G1 found.sum found.share i;
           outside =
-              λ e. subst (λ (z : Float). T (lt (halfSpread c.tick_size (spreadIn c.imbalance_buckets i)) z)) (sym (abs-plus (rows i).adjustment))
+              λ e. subst (λ (z : Float). T (lt (half_spread c.tick_size (spread_in c.imbalance_buckets i)) z)) (sym (abs-plus (rows i).adjustment))
               (subst T (sym (row-outside G found.G1 found.sum found.share i e)) tt);
         })
 
@@ -268,21 +268,21 @@ module _ (rounds moves : ℕ) (c : MicroPriceConfig) (m : Memory Previous) (t₀
     fit_written = record { rows = rows; fit_is = found.is; table_is = table_is; rows_are = rows_are; row_of = row_of }
 
     -- mirrored states: the same status and observations, opposite adjustments, first and final
-    pub fit-mirrors : (i : ℕ) → i < states c → RowsOpposite (row_at table i) (row_at table (mirrorOf c.imbalance_buckets i))
+    pub fit-mirrors : (i : ℕ) → i < states c → RowsOpposite (row_at table i) (row_at table (mirror_of c.imbalance_buckets i))
     fit-mirrors i h =
         let n = c.imbalance_buckets in
         let v = known.conf in
         let some : 1 ≤ n = omega (arith, v.n-least) in
         let tick = value-finite (half c.tick_size) false c.tick_size 2 (half-exact c.tick_size (omega (arith, v.tick-most))) in
         let o = rows-opposite G found.G1 found.sum found.share (mirrored-of known) tick i h (mirror-keeps-spread n i some) (found.held i h) in
-        subst (λ (e : StateEstimate). RowsOpposite e (row_at table (mirrorOf n i))) (sym (rows_are i h))
-        (subst (λ (e : StateEstimate). RowsOpposite (plusZeros (rows i)) e) (sym (rows_are (mirrorOf n i) (mirror-below n i some c.spread_states h))) o)
+        subst (λ (e : StateEstimate). RowsOpposite e (row_at table (mirror_of n i))) (sym (rows_are i h))
+        (subst (λ (e : StateEstimate). RowsOpposite (plus_zeros (rows i)) e) (sym (rows_are (mirror_of n i) (mirror-below n i some c.spread_states h))) o)
 
     -- a Calibrated state: its adjustment is in size at most half the spread
     pub calibrated-inside : (i : ℕ) → i < states c → (row_at table i).status ≡ 0 → Inside c i (row_at table i).adjustment
     calibrated-inside i h z =
-        let width = c.tick_size * spreadIn c.imbalance_buckets i in
-        let w : width < exactWhole = omega (arith, width-most c known.conf i h) in
+        let width = c.tick_size * spread_in c.imbalance_buckets i in
+        let w : width < exact_whole = omega (arith, width-most c known.conf i h) in
         let e = rows_are i h in
         let k = row_inside G found.G1 found.sum found.share i (found.held i h) (value-finite (half width) false width 2 (half-exact width w))
         (sym (ap (λ (x : StateEstimate). x.status) e) ∙ z) in
@@ -290,10 +290,10 @@ module _ (rounds moves : ℕ) (c : MicroPriceConfig) (m : Memory Previous) (t₀
         (subst (λ (x : Float). T (le x (half width))) (sym (ap (λ (x : StateEstimate). abs x.adjustment) e ∙ abs-plus (rows i).adjustment)) k)
 
   -- refused after the checks: 16 to 19
-  pub fit-numbers : (r : Refusal) → fitRefusal c m (length l) (length t₀) ≡ Fine → (fittedWith rounds moves c m t₀ l).answer ≡ Refused r
+  pub fit-numbers : (r : Refusal) → fit_refusal c m (length l) (length t₀) ≡ Fine → (fitted_with rounds moves c m t₀ l).answer ≡ Refused r
       → (16 ≤ number_of r) × (number_of r ≤ 19)
-  fit-numbers r k e = go fit (fit-ended rounds moves G) (ap (λ (x : Check). (fitUnless x (states c) fit t₀ l).answer) (sym k) ∙ e)
+  fit-numbers r k e = go fit (fit-ended rounds moves G) (ap (λ (x : Check). (fit_unless x (states c) fit t₀ l).answer) (sym k) ∙ e)
     where
-      go : (f : Fit) → Ended G f → fitAnswer f ≡ Refused r → (16 ≤ number_of r) × (number_of r ≤ 19)
+      go : (f : Fit) → Ended G f → fit_answer f ≡ Refused r → (16 ≤ number_of r) × (number_of r ≤ 19)
       go (fitted rows) d a = absurd (zero-not-one cc)
-      go (refused n) d a = subst (λ (x : Check). (16 ≤ checkNumber x) × (checkNumber x ≤ 19)) a d
+      go (refused n) d a = subst (λ (x : Check). (16 ≤ check_number x) × (check_number x ≤ 19)) a d

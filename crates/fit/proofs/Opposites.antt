@@ -12,22 +12,22 @@ use lib.Ieee.Bits.{of_bits-fits}
 use lib.Ieee.Fits.{down_pos, mul-fits, cond-fits}
 use lib.Ieee.Scale.{finite}
 use Rattle.basics.proofs.Tests.{both}
-use Rattle.floats.specs.Floats.{posZero, one, two, clamp, abs, plusZero, halfTick, halfSpread}
+use Rattle.floats.specs.Floats.{pos_zero, one, two, clamp, abs, plus_zero, half_tick, half_spread}
 use Rattle.floats.proofs.Helpers.{plus-zero, plus-other}
 use Rattle.floats.proofs.Order.{not-below}
 use Rattle.floats.proofs.Signs.{mul-neg, div-neg, round-zero, sub-turned, abs_neg, abs-finite, plus-neg-plus, plus-sum-zero}
 use Rattle.floats.proofs.Within.{finite-no-nan}
-use Rattle.model.specs.Rows.{plusZeros}
-use Rattle.model.specs.Status.{statusNumber}
+use Rattle.model.specs.Rows.{plus_zeros}
+use Rattle.model.specs.Status.{status_number}
 use Rattle.model.specs.declared.StateEstimate.{StateEstimate}
 use Rattle.model.specs.declared.StateStatus.{StateStatus}
 use Rattle.model.specs.declared.StateStatus.TheVariants.{Calibrated, Rare, NoPriceMove, OutsideQuotes}
 use Rattle.model.proofs.Rows.{Held}
-use Rattle.fit_marking.specs.Marks.{Cells, notRare, reachesIn, mark_of}
+use Rattle.fit_marking.specs.Marks.{Cells, not_rare, reaches_in, mark_of}
 use Rattle.fit_marking.specs.Mirror.{CellsMirror}
 use Rattle.fit_marking.proofs.Mirror.{observations-mirrored, mark-mirrored}
-use Rattle.fit_system.specs.Rows.{isCalibrated}
-use Rattle.fit_estimates.specs.Estimates.{Given, adjusted, judged, estimateOf, estimate, small, representable}
+use Rattle.fit_system.specs.Rows.{is_calibrated}
+use Rattle.fit_estimates.specs.Estimates.{Given, adjusted, judged, estimate_of, estimate, small, representable}
 use Rattle.fit.specs.Models.{Opposite, RowsOpposite}
 
 -- ---- floats
@@ -38,8 +38,8 @@ small-finite nan h = absurd (false≢true h)
 small-finite (inf s) h = absurd (false≢true h)
 small-finite (fin s m e) h = tt
 
-pub plus-plus : (x : Float) → plusZero (plusZero x) ≡ plusZero x
-unfolding plusZero
+pub plus-plus : (x : Float) → plus_zero (plus_zero x) ≡ plus_zero x
+unfolding plus_zero
 plus-plus nan = refl
 plus-plus (inf s) = refl
 plus-plus (fin s zero e) = refl
@@ -57,16 +57,16 @@ zero-times (fin s m e) p = (unlike false s, rw (zero-mul (m * up e)) (round-zero
 
 adjusted-fits : (tick : ℕ) (x y : Float) → T (fits binary64 (adjusted tick x y))
 unfolding adjusted
-adjusted-fits tick x y = mul-fits binary64 (div binary64 (sub binary64 x y) two) (halfTick tick)
+adjusted-fits tick x y = mul-fits binary64 (div binary64 (sub binary64 x y) two) (half_tick tick)
 
-module _ (tick : ℕ) (x y : Float) (p : T (finite (halfTick tick))) where
+module _ (tick : ℕ) (x y : Float) (p : T (finite (half_tick tick))) where
   -- written with zero as plus zero, the mirror's adjustment is the state's negated
-  adjusted-turned : plusZero (adjusted tick y x) ≡ plusZero (neg (adjusted tick x y))
+  adjusted-turned : plus_zero (adjusted tick y x) ≡ plus_zero (neg (adjusted tick x y))
   unfolding adjusted
   adjusted-turned =
       elim (sub-turned binary64 y x) [
         | inl e ↦ rw (e, div-neg, mul-neg)
-        | inr w ↦ let z = zero-times (halfTick tick) p in rw (w.0, w.1, zero-half, z.1) (unfold plusZero in unfold neg in refl)
+        | inr w ↦ let z = zero-times (half_tick tick) p in rw (w.0, w.1, zero-half, z.1) (unfold plus_zero in unfold neg in refl)
       ]
 
   adjusted-size : abs (adjusted tick y x) ≡ abs (adjusted tick x y)
@@ -77,16 +77,16 @@ module _ (tick : ℕ) (x y : Float) (p : T (finite (halfTick tick))) where
         | inr w ↦ rw (w.0, w.1)
       ]
 
-opposite-of : (x y : Float) → T (fits binary64 x) → T (finite x) → plusZero y ≡ plusZero (neg x) → Opposite (plusZero x) (plusZero y)
+opposite-of : (x y : Float) → T (fits binary64 x) → T (finite x) → plus_zero y ≡ plus_zero (neg x) → Opposite (plus_zero x) (plus_zero y)
 unfolding of_bits
 opposite-of x y t f h = record { negated = h ∙ sym (plus-neg-plus x); sum-zero = plus-sum-zero x y t f h }
 
 -- ---- statuses
 
-pub judged-known : (m : StateStatus) (half x : Float) → statusNumber (judged m half x) ≤ 3
+pub judged-known : (m : StateStatus) (half x : Float) → status_number (judged m half x) ≤ 3
 judged-known Calibrated half x = go (lt half (abs x))
   where
-    go : (b : Bool) → statusNumber (cond b OutsideQuotes Calibrated) ≤ 3
+    go : (b : Bool) → status_number (cond b OutsideQuotes Calibrated) ≤ 3
     go true = omega arith
     go false = omega arith
 judged-known Rare half x = omega arith
@@ -99,10 +99,10 @@ judged-turned Rare half x y e = refl
 judged-turned NoPriceMove half x y e = refl
 judged-turned OutsideQuotes half x y e = refl
 
-judged-within : (m : StateStatus) (half x : Float) → statusNumber (judged m half x) ≡ 0 → lt half (abs x) ≡ false
+judged-within : (m : StateStatus) (half x : Float) → status_number (judged m half x) ≡ 0 → lt half (abs x) ≡ false
 judged-within Calibrated half x e = go (lt half (abs x)) e
   where
-    go : (b : Bool) → statusNumber (cond b OutsideQuotes Calibrated) ≡ 0 → b ≡ false
+    go : (b : Bool) → status_number (cond b OutsideQuotes Calibrated) ≡ 0 → b ≡ false
     go true e = absurd (omega arith)
     go false e = refl
 judged-within Rare half x e = absurd (omega arith)
@@ -110,29 +110,29 @@ judged-within NoPriceMove half x e = absurd (omega arith)
 judged-within OutsideQuotes half x e = absurd (omega arith)
 
 -- no state is marked OutsideQuotes
-mark-other : (C : Cells) (i : ℕ) → statusNumber (mark_of C i) ≢ 3
+mark-other : (C : Cells) (i : ℕ) → status_number (mark_of C i) ≢ 3
 unfolding mark_of
-mark-other C i = go (notRare C i) (reachesIn C C.states i)
+mark-other C i = go (not_rare C i) (reaches_in C C.states i)
   where
-    go : (a b : Bool) → statusNumber (cond a (cond b Calibrated NoPriceMove) Rare) ≢ 3
+    go : (a b : Bool) → status_number (cond a (cond b Calibrated NoPriceMove) Rare) ≢ 3
     go true true e = omega arith
     go true false e = omega arith
     go false b e = omega arith
 
-judged-over : (m : StateStatus) (half x : Float) → statusNumber m ≢ 3 → statusNumber (judged m half x) ≡ 3 → lt half (abs x) ≡ true
+judged-over : (m : StateStatus) (half x : Float) → status_number m ≢ 3 → status_number (judged m half x) ≡ 3 → lt half (abs x) ≡ true
 judged-over Calibrated half x n e = go (lt half (abs x)) e
   where
-    go : (b : Bool) → statusNumber (cond b OutsideQuotes Calibrated) ≡ 3 → b ≡ true
+    go : (b : Bool) → status_number (cond b OutsideQuotes Calibrated) ≡ 3 → b ≡ true
     go true e = refl
     go false e = absurd (omega arith)
 judged-over Rare half x n e = absurd (omega arith)
 judged-over NoPriceMove half x n e = absurd (omega arith)
 judged-over OutsideQuotes half x n e = absurd (n refl)
 
-judged-fallback : (m : StateStatus) (half x : Float) → (statusNumber (judged m half x) ≡ 1) ⊎ (statusNumber (judged m half x) ≡ 2) → isCalibrated m ≡ false
+judged-fallback : (m : StateStatus) (half x : Float) → (status_number (judged m half x) ≡ 1) ⊎ (status_number (judged m half x) ≡ 2) → is_calibrated m ≡ false
 judged-fallback Calibrated half x e = absurd (go (lt half (abs x)) e)
   where
-    go : (b : Bool) → (statusNumber (cond b OutsideQuotes Calibrated) ≡ 1) ⊎ (statusNumber (cond b OutsideQuotes Calibrated) ≡ 2) → ⊥
+    go : (b : Bool) → (status_number (cond b OutsideQuotes Calibrated) ≡ 1) ⊎ (status_number (cond b OutsideQuotes Calibrated) ≡ 2) → ⊥
     go true (inl e) = omega arith
     go true (inr e) = omega arith
     go false (inl e) = omega arith
@@ -145,9 +145,9 @@ judged-fallback OutsideQuotes half x e = refl
 
 -- from 0 to 1
 abbrev pub Share : Float → Type 0
-Share x = T (le posZero x) × T (le x one)
+Share x = T (le pos_zero x) × T (le x one)
 
-zero-finite : T (finite posZero)
+zero-finite : T (finite pos_zero)
 unfolding of_bits
 zero-finite = tt
 
@@ -155,7 +155,7 @@ one-finite : T (finite one)
 unfolding of_bits
 one-finite = tt
 
-zero-share : Share posZero
+zero-share : Share pos_zero
 unfolding le of_bits
 zero-share = (tt, tt)
 
@@ -165,23 +165,23 @@ one-share = (tt, tt)
 
 clamp-share : (x : Float) → T (finite (clamp x)) → Share (clamp x)
 unfolding clamp
-clamp-share x f = go (lt x posZero) refl (lt one x) refl f
+clamp-share x f = go (lt x pos_zero) refl (lt one x) refl f
   where
-    go : (a : Bool) → lt x posZero ≡ a → (b : Bool) → lt one x ≡ b → T (finite (cond a posZero (cond b one x))) → Share (cond a posZero (cond b one x))
+    go : (a : Bool) → lt x pos_zero ≡ a → (b : Bool) → lt one x ≡ b → T (finite (cond a pos_zero (cond b one x))) → Share (cond a pos_zero (cond b one x))
     go true p b q f = zero-share
     go false p true q f = one-share
     go false p false q f =
-        (not-below x posZero (finite-no-nan x f) (finite-no-nan posZero zero-finite) p, not-below one x (finite-no-nan one one-finite) (finite-no-nan x f) q)
+        (not-below x pos_zero (finite-no-nan x f) (finite-no-nan pos_zero zero-finite) p, not-below one x (finite-no-nan one one-finite) (finite-no-nan x f) q)
 
-plus-share : (x : Float) → T (fits binary64 x) → Share x → Share (plusZero x)
-plus-share x t s = go (eq x posZero) refl
+plus-share : (x : Float) → T (fits binary64 x) → Share x → Share (plus_zero x)
+plus-share x t s = go (eq x pos_zero) refl
   where
-    go : (b : Bool) → eq x posZero ≡ b → Share (plusZero x)
+    go : (b : Bool) → eq x pos_zero ≡ b → Share (plus_zero x)
     go true e = subst Share (plus-zero x t e) zero-share
     go false e = subst Share (plus-other x e) s
 
-plus_one : plusZero one ≡ one
-unfolding plusZero of_bits
+plus_one : plus_zero one ≡ one
+unfolding plus_zero of_bits
 plus_one = refl
 
 -- ---- estimates
@@ -202,69 +202,69 @@ module _ (G : Given) (G1 sum share : ℕ → Float) where
   row = estimate G G1 sum share
 
   pub held_of : (i : ℕ) → T (fits binary64 (share i)) → Held (row i)
-  unfolding estimateOf
+  unfolding estimate_of
   held_of i h =
       record {
         first = adjusted-fits G.tick (G1 i) (G1 (G.mirror i));
         final = adjusted-fits G.tick (sum i) (sum (G.mirror i));
-        share = cond-fits binary64 (isCalibrated (mark_of G.cells i)) (share i) one h (of_bits-fits binary64 0x3ff0_0000_0000_0000);
+        share = cond-fits binary64 (is_calibrated (mark_of G.cells i)) (share i) one h (of_bits-fits binary64 0x3ff0_0000_0000_0000);
       }
 
   pub row-known : (i : ℕ) → ((row i).imbalance_bucket ≡ G.bucket i) × ((row i).spread_ticks ≡ G.spread i) × ((row i).status ≤ 3)
-  unfolding estimateOf
+  unfolding estimate_of
   row-known i = (refl, refl, judged-known (mark_of G.cells i) _ _)
 
   -- its share, written with zero as plus zero
   pub row-share : (i : ℕ) (y : Float) → share i ≡ clamp y → T (fits binary64 (share i)) → representable (row i) ≡ true
-      → Share (plusZero (row i).fallback_within_moves)
-  unfolding estimateOf
-  row-share i y is t r = go (isCalibrated (mark_of G.cells i)) (finite-of (row i) r).share
+      → Share (plus_zero (row i).fallback_within_moves)
+  unfolding estimate_of
+  row-share i y is t r = go (is_calibrated (mark_of G.cells i)) (finite-of (row i) r).share
     where
-      go : (b : Bool) → T (finite (cond b (share i) one)) → Share (plusZero (cond b (share i) one))
+      go : (b : Bool) → T (finite (cond b (share i) one)) → Share (plus_zero (cond b (share i) one))
       go true f = plus-share (share i) t (subst Share (sym is) (clamp-share y (subst (λ (x : Float). T (finite x)) is f)))
       go false f = subst Share (sym plus_one) one-share
 
-  pub row-fallback : (i : ℕ) → ((row i).status ≡ 1) ⊎ ((row i).status ≡ 2) → plusZero (row i).fallback_within_moves ≡ one
-  unfolding estimateOf
+  pub row-fallback : (i : ℕ) → ((row i).status ≡ 1) ⊎ ((row i).status ≡ 2) → plus_zero (row i).fallback_within_moves ≡ one
+  unfolding estimate_of
   row-fallback i e =
-      ap (λ (b : Bool). plusZero (cond b (share i) one))
-      (judged-fallback (mark_of G.cells i) (halfSpread G.tick (G.spread i)) (adjusted G.tick (sum i) (sum (G.mirror i))) e)
+      ap (λ (b : Bool). plus_zero (cond b (share i) one))
+      (judged-fallback (mark_of G.cells i) (half_spread G.tick (G.spread i)) (adjusted G.tick (sum i) (sum (G.mirror i))) e)
       ∙ plus_one
 
-  pub row-outside : (i : ℕ) → (row i).status ≡ 3 → lt (halfSpread G.tick (G.spread i)) (abs (row i).adjustment) ≡ true
-  unfolding estimateOf
+  pub row-outside : (i : ℕ) → (row i).status ≡ 3 → lt (half_spread G.tick (G.spread i)) (abs (row i).adjustment) ≡ true
+  unfolding estimate_of
   row-outside i e =
-      judged-over (mark_of G.cells i) (halfSpread G.tick (G.spread i)) (adjusted G.tick (sum i) (sum (G.mirror i))) (mark-other G.cells i) e
+      judged-over (mark_of G.cells i) (half_spread G.tick (G.spread i)) (adjusted G.tick (sum i) (sum (G.mirror i))) (mark-other G.cells i) e
 
   -- a Calibrated state's adjustment is in size at most half the spread
-  pub row_inside : (i : ℕ) → representable (row i) ≡ true → T (finite (halfSpread G.tick (G.spread i))) → (row i).status ≡ 0
-      → T (le (abs (row i).adjustment) (halfSpread G.tick (G.spread i)))
-  unfolding estimateOf
+  pub row_inside : (i : ℕ) → representable (row i) ≡ true → T (finite (half_spread G.tick (G.spread i))) → (row i).status ≡ 0
+      → T (le (abs (row i).adjustment) (half_spread G.tick (G.spread i)))
+  unfolding estimate_of
   row_inside i r p z =
-      let half = halfSpread G.tick (G.spread i) in
+      let half = half_spread G.tick (G.spread i) in
       let x = adjusted G.tick (sum i) (sum (G.mirror i)) in
       not-below half (abs x) (finite-no-nan half p) (finite-no-nan (abs x) (subst T (sym (abs-finite x)) (finite-of (row i) r).final))
       (judged-within (mark_of G.cells i) half x z)
 
-  module _ (M : CellsMirror G.cells G.mirror) (p : T (finite (halfTick G.tick))) (i : ℕ) (h : i < G.cells.states)
+  module _ (M : CellsMirror G.cells G.mirror) (p : T (finite (half_tick G.tick))) (i : ℕ) (h : i < G.cells.states)
       (kept : G.spread (G.mirror i) ≡ G.spread i) where
     abbrev j : ℕ
     j = G.mirror i
 
-    turned : (v : ℕ → Float) → plusZero (adjusted G.tick (v j) (v (G.mirror j))) ≡ plusZero (neg (adjusted G.tick (v i) (v j)))
-    turned v = ap (λ (k : ℕ). plusZero (adjusted G.tick (v j) (v k))) (M.mirror-twice i h) ∙ adjusted-turned G.tick (v i) (v j) p
+    turned : (v : ℕ → Float) → plus_zero (adjusted G.tick (v j) (v (G.mirror j))) ≡ plus_zero (neg (adjusted G.tick (v i) (v j)))
+    turned v = ap (λ (k : ℕ). plus_zero (adjusted G.tick (v j) (v k))) (M.mirror-twice i h) ∙ adjusted-turned G.tick (v i) (v j) p
 
     status-turned : (row j).status ≡ (row i).status
-    unfolding estimateOf
+    unfolding estimate_of
     status-turned =
-        (λ d. statusNumber
-        (judged (mark-mirrored G.cells G.mirror M i h d) (halfSpread G.tick (kept d)) (adjusted G.tick (sum j) (sum (M.mirror-twice i h d)))))
-        ∙ ap statusNumber
-        (judged-turned (mark_of G.cells i) (halfSpread G.tick (G.spread i)) (adjusted G.tick (sum i) (sum j)) (adjusted G.tick (sum j) (sum i))
+        (λ d. status_number
+        (judged (mark-mirrored G.cells G.mirror M i h d) (half_spread G.tick (kept d)) (adjusted G.tick (sum j) (sum (M.mirror-twice i h d)))))
+        ∙ ap status_number
+        (judged-turned (mark_of G.cells i) (half_spread G.tick (G.spread i)) (adjusted G.tick (sum i) (sum j)) (adjusted G.tick (sum j) (sum i))
         (adjusted-size G.tick (sum i) (sum j) p))
 
-    pub rows-opposite : representable (row i) ≡ true → RowsOpposite (plusZeros (row i)) (plusZeros (row j))
-    unfolding estimateOf
+    pub rows-opposite : representable (row i) ≡ true → RowsOpposite (plus_zeros (row i)) (plus_zeros (row j))
+    unfolding estimate_of
     rows-opposite r =
         let f = finite-of (row i) r in
         record {

@@ -3,24 +3,24 @@ use Rattle.std.specs.Prelude.{ℕ, ◌+◌, ◌<◌, ◌≤◌, ◌≡◌, List,
 use Rattle.basics.specs.Domain.{most}
 use Rattle.fit_marking.specs.Marks.{cells_of, Fitting}
 use Rattle.fit_linear.specs.Inner.{from}
-use Rattle.fit_series.specs.Inner.{sum_at, shareAt, solvedG1}
+use Rattle.fit_series.specs.Inner.{sum_at, share_at, solved_g1}
 use Rattle.fit_system.specs.Rows.{total_of}
 use Rattle.refusals.specs.declared.Check.{Check}
 use Rattle.model.specs.declared.StateEstimate.{StateEstimate}
-use Rattle.quotes.specs.States.{bucketIn, spreadIn}
+use Rattle.quotes.specs.States.{bucket_in, spread_in}
 use Rattle.fit_estimates.specs.Estimates.{Given, estimate}
-use Rattle.fit.specs.Fit.{Fit, fitAnswer, modelAfter}
+use Rattle.fit.specs.Fit.{Fit, fit_answer, model_after}
 
 -- what the inner functions are given: tables of n states and a table of their mirrors
-abbrev pub givenIn : ℕ → ℕ → ℕ → ℕ → List ℕ → List ℕ → List ℤ → List ℕ → Given
-givenIn n buckets tick least stay moved totals mirrors =
+abbrev pub given_in : ℕ → ℕ → ℕ → ℕ → List ℕ → List ℕ → List ℤ → List ℕ → Given
+given_in n buckets tick least stay moved totals mirrors =
     record {
       cells = cells_of n least stay moved;
       total = total_of totals;
       tick = tick;
       mirror = λ i. get_or mirrors i 0;
-      bucket = λ i. bucketIn buckets i + 1;
-      spread = spreadIn buckets;
+      bucket = λ i. bucket_in buckets i + 1;
+      spread = spread_in buckets;
     }
 
 -- n states with their mirrors, a tick and buckets of the domain
@@ -33,10 +33,10 @@ pub record Usable (n buckets tick : ℕ) (stay moved mirrors : List ℕ) : Type 
   pub tick-most : tick ≤ most
 
 -- each state's estimate, from what stands in scratch
-abbrev pub rowsIn : ℕ → Given → List Float → ℕ → StateEstimate
-rowsIn n G l = estimate G (solvedG1 n l) (from (sum_at n) l) (from (shareAt n) l)
+abbrev pub rows_in : ℕ → Given → List Float → ℕ → StateEstimate
+rows_in n G l = estimate G (solved_g1 n l) (from (sum_at n) l) (from (share_at n) l)
 
 -- the answer and the model table that a fit leaves
 pub record FitEnds (n : ℕ) (f : Fit) (before : List ℕ) (answer : Check) (after : List ℕ) : Type 0 where
-  pub answers : answer ≡ fitAnswer f
-  pub models : after ≡ modelAfter n f before
+  pub answers : answer ≡ fit_answer f
+  pub models : after ≡ model_after n f before

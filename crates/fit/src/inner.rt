@@ -1,17 +1,17 @@
 // Inner functions: for the crates above, not for users. Where one has a `requires`, each caller proves it.
 ghost use Rattle.std.specs.Prelude.{◌≡◌, true, ℕ, ◌+◌, ◌*◌, ◌<◌, ◌≤◌, eqb, ℤ, length, get_or, replicate, List};
 ghost use Rattle.basics.specs.Loan.{given, final};
-ghost use Rattle.floats.specs.Floats.{posZero};
-ghost use Rattle.fit_marking.specs.Below.{someTo};
+ghost use Rattle.floats.specs.Floats.{pos_zero};
+ghost use Rattle.fit_marking.specs.Below.{some_to};
 ghost use Rattle.fit_marking.specs.Marks.{cells_of};
 ghost use Rattle.fit_linear.specs.Inner.{from};
-ghost use Rattle.fit_series.specs.Inner.{sum_at, shareAt, solvedG1, Scratch};
+ghost use Rattle.fit_series.specs.Inner.{sum_at, share_at, solved_g1, Scratch};
 ghost use Rattle.fit_system.specs.Rows.{used};
 ghost use Rattle.fit_system.specs.Inner.{Exact, Marks};
 ghost use Rattle.calibrator.specs.Record.{came};
-ghost use Rattle.fit_estimates.specs.Estimates.{solvedAt};
-ghost use Rattle.fit.specs.Inner.{givenIn, Usable, rowsIn, FitEnds};
-ghost use Rattle.fit.specs.Fit.{judgedRows, fitOf, wrongFitLengths, fitRefusal, table_of, fitAnswer, endFit, fittedWith, fitCounts};
+ghost use Rattle.fit_estimates.specs.Estimates.{solved_at};
+ghost use Rattle.fit.specs.Inner.{given_in, Usable, rows_in, FitEnds};
+ghost use Rattle.fit.specs.Fit.{judged_rows, fit_of, wrong_fit_lengths, fit_refusal, table_of, fit_answer, end_fit, fitted_with, fit_counts};
 
 use calibrator::Record;
 use config::MicroPriceConfig;
@@ -22,7 +22,7 @@ use refusals::{Check, Refusal};
 // What scratch has for state i and its mirror m.
 fn solved_in(scratch: &[f64], n: usize, i: usize, m: usize) -> Solved
     requires { Scratch n scratch.now × (i < n) × (m < n) }
-    ensures { result ≡ solvedAt (λ k. m) (solvedG1 n (given scratch)) (from (sum_at n) (given scratch)) (from (shareAt n) (given scratch)) i }
+    ensures { result ≡ solved_at (λ k. m) (solved_g1 n (given scratch)) (from (sum_at n) (given scratch)) (from (share_at n) (given scratch)) i }
 {
     let w = 2 * n + 2;
     let sum = n * w;
@@ -54,7 +54,7 @@ fn state_estimate(
 ) -> StateEstimate
     requires { Usable n buckets tick stay.now moved.now mirrors.now × (n ≤ length marks.now) × Scratch n scratch.now × (i < n) }
     ensures { (least : ℕ) (totals : List ℤ) → Marks (cells_of n least (given stay) (given moved)) (given marks)
-        → result ≡ rowsIn n (givenIn n buckets tick least (given stay) (given moved) totals (given mirrors)) (given scratch) i }
+        → result ≡ rows_in n (given_in n buckets tick least (given stay) (given moved) totals (given mirrors)) (given scratch) i }
 {
     let solved = solved_in(scratch, n, i, mirrors[i]);
     let observed = fit_marking::observations_of(stay, moved, n, i);
@@ -82,7 +82,7 @@ fn judge_estimates(
 ) -> Check
     requires { Usable n buckets tick stay.now moved.now mirrors.now × (n ≤ length marks.now) × Scratch n scratch.now }
     ensures { (least : ℕ) (totals : List ℤ) → Marks (cells_of n least (given stay) (given moved)) (given marks)
-        → result ≡ fitAnswer (judgedRows n (rowsIn n (givenIn n buckets tick least (given stay) (given moved) totals (given mirrors)) (given scratch))) }
+        → result ≡ fit_answer (judged_rows n (rows_in n (given_in n buckets tick least (given stay) (given moved) totals (given mirrors)) (given scratch))) }
 {
     let mut found = false;
     let mut i: usize = 0;
@@ -114,7 +114,7 @@ fn write_estimates(
 )
     requires { Usable n buckets tick stay.now moved.now mirrors.now × (n ≤ length marks.now) × Scratch n scratch.now × (length model.old ≡ 7 * n) }
     ensures { (least : ℕ) (totals : List ℤ) → Marks (cells_of n least (given stay) (given moved)) (given marks)
-        → final model ≡ table_of n (rowsIn n (givenIn n buckets tick least (given stay) (given moved) totals (given mirrors)) (given scratch)) }
+        → final model ≡ table_of n (rows_in n (given_in n buckets tick least (given stay) (given moved) totals (given mirrors)) (given scratch)) }
 {
     let mut i: usize = 0;
     while i < n {
@@ -127,7 +127,7 @@ fn write_estimates(
 // Whether a state is marked Calibrated.
 fn has_calibrated(marks: &[u64], n: usize) -> bool
     requires { n ≤ length marks.now }
-    ensures { result ≡ someTo n (λ i. eqb (get_or (given marks) i 0) 0) }
+    ensures { result ≡ some_to n (λ i. eqb (get_or (given marks) i 0) 0) }
 {
     let mut i: usize = 0;
     while i < n {
@@ -156,8 +156,8 @@ fn fit_marked(
 ) -> Check
     requires { Usable n buckets tick stay.now moved.now mirrors.now × Exact n stay.now moved.now move_half_ticks.now
         × (n ≤ length marks.now) × Scratch n scratch.old × (length model.old ≡ 7 * n) }
-    ensures { (least : ℕ) → let C = cells_of n least (given stay) (given moved) in Marks C (given marks) → someTo n (used C) ≡ true
-        → FitEnds n (fitOf rounds moves (givenIn n buckets tick least (given stay) (given moved) (given move_half_ticks) (given mirrors))) (given model) result (final model) }
+    ensures { (least : ℕ) → let C = cells_of n least (given stay) (given moved) in Marks C (given marks) → some_to n (used C) ≡ true
+        → FitEnds n (fit_of rounds moves (given_in n buckets tick least (given stay) (given moved) (given move_half_ticks) (given mirrors))) (given model) result (final model) }
 {
     let solved = fit_system::solve_system(
         stay,
@@ -198,7 +198,7 @@ fn fit_states(
     model: &mut [u64],
 ) -> Check
     requires { Usable n buckets tick stay.now moved.now mirrors.now × Exact n stay.now moved.now move_half_ticks.now × Scratch n scratch.old × (length model.old ≡ 7 * n) }
-    ensures { FitEnds n (fitOf rounds moves (givenIn n buckets tick least (given stay) (given moved) (given move_half_ticks) (given mirrors))) (given model) result (final model) }
+    ensures { FitEnds n (fit_of rounds moves (given_in n buckets tick least (given stay) (given moved) (given move_half_ticks) (given mirrors))) (given model) result (final model) }
 {
     let mut marks = [1u64; 256];
     fit_marking::mark_no_price_move(stay, moved, n, least, &mut marks);
@@ -222,7 +222,7 @@ fn fit_states(
 }
 
 fn clear(scratch: &mut [f64])
-    ensures { final scratch ≡ replicate (length (given scratch)) posZero }
+    ensures { final scratch ≡ replicate (length (given scratch)) pos_zero }
 {
     let mut i: usize = 0;
     while i < scratch.len() {
@@ -234,7 +234,7 @@ fn clear(scratch: &mut [f64])
 // Whether scratch or the model table has a wrong length.
 pub fn wrong_fit_lengths(n: usize, scratch: usize, model: usize) -> bool
     requires { n ≤ 256 }
-    ensures { result ≡ wrongFitLengths n scratch model }
+    ensures { result ≡ wrong_fit_lengths n scratch model }
 {
     (scratch != n * (2 * n + 10)) | (model != 7 * n)
 }
@@ -249,7 +249,7 @@ fn check_fit(
     scratch: usize,
     model: usize,
 ) -> Check
-    ensures { result ≡ fitRefusal config (came rec stay moved move_half_ticks) scratch model }
+    ensures { result ≡ fit_refusal config (came rec stay moved move_half_ticks) scratch model }
 {
     let lengths = calibrator::inner::check_table_lengths(
         config,
@@ -279,7 +279,7 @@ pub fn fit_counts_with(
     scratch: &mut [f64],
     model: &mut [u64],
 ) -> Check
-    ensures { endFit result (final model) (final scratch) ≡ fittedWith rounds moves config (came rec stay moved move_half_ticks) (given model) (given scratch) }
+    ensures { end_fit result (final model) (final scratch) ≡ fitted_with rounds moves config (came rec stay moved move_half_ticks) (given model) (given scratch) }
 {
     let k = check_fit(
         rec,
@@ -323,7 +323,7 @@ pub fn fit_counts(
     scratch: &mut [f64],
     model: &mut [u64],
 ) -> Check
-    ensures { endFit result (final model) (final scratch) ≡ fitCounts config (came rec stay moved move_half_ticks) (given model) (given scratch) }
+    ensures { end_fit result (final model) (final scratch) ≡ fit_counts config (came rec stay moved move_half_ticks) (given model) (given scratch) }
 {
     fit_counts_with(
         rec,

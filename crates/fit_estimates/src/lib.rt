@@ -1,12 +1,14 @@
 // The estimate of a state, made of the solution (document 01, "The fit").
 // Inner functions: for the fit, not for users. Where one has a `requires`, each caller proves it.
+#![tactic(auto)]
+
 ghost use Rattle.std.specs.Prelude.{◌≡◌, cond, ◌≤◌};
 ghost use Rattle.basics.specs.Domain.{most};
 ghost use Rattle.floats.specs.Floats.{one};
-ghost use Rattle.model.specs.Status.{statusNumber};
+ghost use Rattle.model.specs.Status.{status_number};
 ghost use Rattle.model.specs.declared.StateStatus.{StateStatus};
-ghost use Rattle.fit_system.specs.Rows.{isCalibrated};
-ghost use Rattle.fit_estimates.specs.Estimates.{adjusted, judged, estimateOf, small, representable};
+ghost use Rattle.fit_system.specs.Rows.{is_calibrated};
+ghost use Rattle.fit_estimates.specs.Estimates.{adjusted, judged, estimate_of, small, representable};
 
 use model::StateEstimate;
 
@@ -29,7 +31,7 @@ fn adjust(tick: u64, own: f64, mirrored: f64) -> f64
 
 // The status, by the number of the mark.
 fn judge_status(mark: u64, half: f64, adjustment: f64) -> u64
-    ensures { (m : StateStatus) → mark ≡ statusNumber m → result ≡ statusNumber (judged m half adjustment) }
+    ensures { (m : StateStatus) → mark ≡ status_number m → result ≡ status_number (judged m half adjustment) }
 {
     if mark != 0 {
         return mark;
@@ -42,7 +44,7 @@ fn judge_status(mark: u64, half: f64, adjustment: f64) -> u64
 
 // The share, by the number of the mark.
 fn share_of(mark: u64, share: f64) -> f64
-    ensures { (m : StateStatus) → mark ≡ statusNumber m → result ≡ cond (isCalibrated m) share one }
+    ensures { (m : StateStatus) → mark ≡ status_number m → result ≡ cond (is_calibrated m) share one }
 {
     if mark == 0 {
         return share;
@@ -59,7 +61,7 @@ pub fn estimate_of(
     s: Solved,
 ) -> StateEstimate
     requires { (tick ≤ most) × (spread ≤ 256) }
-    ensures { (m : StateStatus) → mark ≡ statusNumber m → result ≡ estimateOf tick bucket spread m observed s }
+    ensures { (m : StateStatus) → mark ≡ status_number m → result ≡ estimate_of tick bucket spread m observed s }
 {
     let adjustment = adjust(tick, s.own, s.mirrored);
     let half = floats::inner::half_spread(tick, spread);

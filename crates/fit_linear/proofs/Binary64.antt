@@ -6,12 +6,12 @@ use lib.Ieee.{Float, binary64, fits}
 use lib.Ieee.Fits.{cond-fits, neg-fits, sub-fits, div-fits}
 use Rattle.floats.specs.Floats.{one}
 use Rattle.fit_linear.specs.Arithmetic.{Arith, rounded}
-use Rattle.fit_linear.specs.Elimination.{Elimination, solved, singular, matrixOf, and_then, Matrix, system, pivotRow, swapped, normalized, cleared, reduced, columnSolved, columnsSolved, gaussJordan}
+use Rattle.fit_linear.specs.Elimination.{Elimination, solved, singular, matrix_of, and_then, Matrix, system, pivot_row, swapped, normalized, cleared, reduced, column_solved, columns_solved, gauss_jordan}
 
 -- ---- what each difference and each quotient has, elimination keeps
 
 module _ (F : Arith) (P : Arith.Num F → Type 0) where
-  open F use {Num, ◌⊖◌, ◌⊗◌, ◌⊘◌, size, is_zero, isTiny}
+  open F use {Num, ◌⊖◌, ◌⊗◌, ◌⊘◌, size, is_zero, is_tiny}
 
   infixl 65 ◌⊖◌
   infixl 70 ◌⊗◌
@@ -39,23 +39,23 @@ module _ (F : Arith) (P : Arith.Num F → Type 0) where
         cond-kept (eqb r c) (normalized F A c k) (cleared F (A r c) (A r) (normalized F A c) k) (quotients _ _)
         (cleared-kept (A r c) (A r) (normalized F A c) k (h r k))
 
-    column-kept : (n : ℕ) (A : Matrix F) (c : ℕ) → EachCell A → EachCell (matrixOf (columnSolved F n A c))
-    unfolding columnSolved
-    column-kept n A c h = go (isTiny (size (A p c)))
+    column-kept : (n : ℕ) (A : Matrix F) (c : ℕ) → EachCell A → EachCell (matrix_of (column_solved F n A c))
+    unfolding column_solved
+    column-kept n A c h = go (is_tiny (size (A p c)))
       where
         p : ℕ
-        p = pivotRow F A c (n - (c + 1))
+        p = pivot_row F A c (n - (c + 1))
 
-        go : (b : Bool) → EachCell (matrixOf (cond b (singular A) (solved (reduced F (swapped F A c p) c))))
+        go : (b : Bool) → EachCell (matrix_of (cond b (singular A) (solved (reduced F (swapped F A c p) c))))
         go true = h
         go false = reduced-kept (swapped F A c p) c (swapped-kept A c p h)
 
-    pub columns-kept : (n : ℕ) (A : Matrix F) → EachCell A → (m : ℕ) → EachCell (matrixOf (columnsSolved F n A m))
-    unfolding columnsSolved
+    pub columns-kept : (n : ℕ) (A : Matrix F) → EachCell A → (m : ℕ) → EachCell (matrix_of (columns_solved F n A m))
+    unfolding columns_solved
     columns-kept n A h zero = h
-    columns-kept n A h (suc m) = go (columnsSolved F n A m) (columns-kept n A h m)
+    columns-kept n A h (suc m) = go (columns_solved F n A m) (columns-kept n A h m)
       where
-        go : (a : Elimination Num) → EachCell (matrixOf a) → EachCell (matrixOf (and_then a (λ B. columnSolved F n B m)))
+        go : (a : Elimination Num) → EachCell (matrix_of a) → EachCell (matrix_of (and_then a (λ B. column_solved F n B m)))
         go (solved B) g = column-kept n B m g
         go (singular B) g = g
 
@@ -70,7 +70,7 @@ abbrev pub CellsFit : (ℕ → ℕ → Float) → Type 0
 CellsFit A = (r : ℕ) → NumbersFit (A r)
 
 -- solved or singular
-pub solved-fits : (n : ℕ) (A : ℕ → ℕ → Float) → CellsFit A → CellsFit (matrixOf (gaussJordan rounded n A))
+pub solved-fits : (n : ℕ) (A : ℕ → ℕ → Float) → CellsFit A → CellsFit (matrix_of (gauss_jordan rounded n A))
 solved-fits n A h = columns-kept rounded (λ x. T (fits binary64 x)) (sub-fits binary64) (div-fits binary64) n A h n
 
 pub system-fits : (n : ℕ) (Q : ℕ → ℕ → Float) (K fallback : ℕ → Float) (moved : ℕ → ℕ → Float)

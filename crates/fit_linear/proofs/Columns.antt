@@ -10,7 +10,7 @@ use lib.Ieee.{Float, binary64, div, lt}
 use Rattle.basics.proofs.Tests.{zero-not-one}
 use Rattle.floats.specs.Floats.{abs, tiny}
 use Rattle.fit_linear.specs.Arithmetic.{rounded}
-use Rattle.fit_linear.specs.Elimination.{Elimination, solved, singular, and_then, pivotRow, columnSolved, columnsSolved, gaussJordan}
+use Rattle.fit_linear.specs.Elimination.{Elimination, solved, singular, and_then, pivot_row, column_solved, columns_solved, gauss_jordan}
 use Rattle.fit_linear.specs.Inner.{from, rows_of, Becomes, Eliminated, Filled, Swapped, ClearedRows}
 use Rattle.fit_linear.specs.declared.Solve.{Solve}
 use Rattle.fit_linear.specs.declared.Solve.TheVariants.{Solved, Singular}
@@ -19,11 +19,11 @@ use Rattle.fit_linear.proofs.Rows.{column-becomes}
 
 -- ---- one column: the pivot's row p is found, and the pivot's size x
 
-module _ (n w c p : ℕ) {l : List Float} {x : Float} (found : (p < n) × (p ≡ pivotRow rounded (rows_of w l) c (n - (c + 1))))
+module _ (n w c p : ℕ) {l : List Float} {x : Float} (found : (p < n) × (p ≡ pivot_row rounded (rows_of w l) c (n - (c + 1))))
     (size : x ≡ abs (rows_of w l p c)) where
   -- too small: nothing is written
-  pub column-singular : lt x tiny ≡ true → Eliminated n w (columnSolved rounded n (rows_of w l) c) l Singular l
-  unfolding columnSolved
+  pub column-singular : lt x tiny ≡ true → Eliminated n w (column_solved rounded n (rows_of w l) c) l Singular l
+  unfolding column_solved
   column-singular h = rw (← found.1, ← size, h) (record { answers = refl; becomes = record { cells = λ r k hr hk. refl; elsewhere = λ i hi. refl } })
 
   -- else rows c and p change places, row c is divided by the pivot, and the rows above it and then those below it are cleared
@@ -32,42 +32,42 @@ module _ (n w c p : ℕ) {l : List Float} {x : Float} (found : (p < n) × (p ≡
       → Filled (c * w) w (λ k. div binary64 (from (c * w) m k) (rows_of w m c c)) m d
       → ClearedRows w c 0 c d e
       → ClearedRows w c (c + 1) n e f
-      → Eliminated n w (columnSolved rounded n (rows_of w l) c) l Solved f
-  unfolding columnSolved
+      → Eliminated n w (column_solved rounded n (rows_of w l) c) l Solved f
+  unfolding column_solved
   column-solved hc narrow h s t u v =
       rw (← found.1, ← size, h) (record { answers = refl; becomes = column-becomes n w c p hc found.0 narrow s t u v })
 
 -- ---- all columns
 
-pub columns-none : {n w : ℕ} {l : List Float} → Eliminated n w (columnsSolved rounded n (rows_of w l) 0) l Solved l
-unfolding columnsSolved
+pub columns-none : {n w : ℕ} {l : List Float} → Eliminated n w (columns_solved rounded n (rows_of w l) 0) l Solved l
+unfolding columns_solved
 columns-none = record { answers = refl; becomes = record { cells = λ r k hr hk. refl; elsewhere = λ i hi. refl } }
 
 -- once singular, singular
-stays : (n c k : ℕ) (A B : ℕ → ℕ → Float) → columnsSolved rounded n A c ≡ singular B → columnsSolved rounded n A (c + k) ≡ singular B
-unfolding columnsSolved
+stays : (n c k : ℕ) (A B : ℕ → ℕ → Float) → columns_solved rounded n A c ≡ singular B → columns_solved rounded n A (c + k) ≡ singular B
+unfolding columns_solved
 stays n c zero A B h = rw (add-zero c) h
 stays n c (suc k) A B h = rw (add-suc c k, stays n c k A B h)
 
 -- so a singular column makes the whole singular
-all-singular : (n w c : ℕ) (l m : List Float) → c ≤ n → Eliminated n w (columnsSolved rounded n (rows_of w l) c) l Singular m
-    → Eliminated n w (gaussJordan rounded n (rows_of w l)) l Singular m
-all-singular n w c l m hc e = go (columnsSolved rounded n (rows_of w l) c) refl e
+all-singular : (n w c : ℕ) (l m : List Float) → c ≤ n → Eliminated n w (columns_solved rounded n (rows_of w l) c) l Singular m
+    → Eliminated n w (gauss_jordan rounded n (rows_of w l)) l Singular m
+all-singular n w c l m hc e = go (columns_solved rounded n (rows_of w l) c) refl e
   where
-    go : (a : Elimination Float) → columnsSolved rounded n (rows_of w l) c ≡ a → Eliminated n w a l Singular m
-        → Eliminated n w (gaussJordan rounded n (rows_of w l)) l Singular m
+    go : (a : Elimination Float) → columns_solved rounded n (rows_of w l) c ≡ a → Eliminated n w a l Singular m
+        → Eliminated n w (gauss_jordan rounded n (rows_of w l)) l Singular m
     go (solved A) h e = absurd (zero-not-one (cc e.answers))
     go (singular A) h e =
         let z : c + (n - c) ≡ n = omega arith in
-        let s : columnsSolved rounded n (rows_of w l) n ≡ singular A = rw z at (stays n c (n - c) (rows_of w l) A h) in
+        let s : columns_solved rounded n (rows_of w l) n ≡ singular A = rw z at (stays n c (n - c) (rows_of w l) A h) in
         rw s e
 
 -- the first c columns are solved, and the answer for column c is x
 module _ (n w c : ℕ) {l m m' : List Float} {x : Solve} (narrow : n ≤ w) (hc : c < n)
-    (s : Eliminated n w (columnsSolved rounded n (rows_of w l) c) l Solved m)
-    (e : Eliminated n w (columnSolved rounded n (rows_of w m) c) m x m') where
+    (s : Eliminated n w (columns_solved rounded n (rows_of w l) c) l Solved m)
+    (e : Eliminated n w (column_solved rounded n (rows_of w m) c) m x m') where
   -- column c of a list that holds A
-  next : (A : ℕ → ℕ → Float) → Becomes n w A l m → Eliminated n w (columnSolved rounded n A c) l x m'
+  next : (A : ℕ → ℕ → Float) → Becomes n w A l m → Eliminated n w (column_solved rounded n A c) l x m'
   next A b =
       let s = eliminated-same _ _ (column-same rounded n w narrow (rows_of w m) A b.cells c hc) e in
       record {
@@ -75,18 +75,18 @@ module _ (n w c : ℕ) {l m m' : List Float} {x : Solve} (narrow : n ≤ w) (hc 
         becomes = record { cells = s.becomes.cells; elsewhere = λ i h. s.becomes.elsewhere i h ∙ b.elsewhere i h };
       }
 
-  column : Eliminated n w (columnsSolved rounded n (rows_of w l) (c + 1)) l x m'
-  unfolding columnsSolved
-  column = rw add-one (go (columnsSolved rounded n (rows_of w l) c) s)
+  column : Eliminated n w (columns_solved rounded n (rows_of w l) (c + 1)) l x m'
+  unfolding columns_solved
+  column = rw add-one (go (columns_solved rounded n (rows_of w l) c) s)
     where
-      go : (a : Elimination Float) → Eliminated n w a l Solved m → Eliminated n w (and_then a (λ B. columnSolved rounded n B c)) l x m'
+      go : (a : Elimination Float) → Eliminated n w a l Solved m → Eliminated n w (and_then a (λ B. column_solved rounded n B c)) l x m'
       go (solved A) s = next A s.becomes
       go (singular A) s = absurd (zero-not-one (cc s.answers))
 
   -- one column more
-  pub columns-more : x ≡ Solved → Eliminated n w (columnsSolved rounded n (rows_of w l) (c + 1)) l Solved m'
+  pub columns-more : x ≡ Solved → Eliminated n w (columns_solved rounded n (rows_of w l) (c + 1)) l Solved m'
   columns-more h = rw h at column
 
   -- a singular column ends the elimination
-  pub columns-singular : x ≡ Singular → Eliminated n w (gaussJordan rounded n (rows_of w l)) l Singular m'
+  pub columns-singular : x ≡ Singular → Eliminated n w (gauss_jordan rounded n (rows_of w l)) l Singular m'
   columns-singular h = all-singular n w (c + 1) l m' (omega arith) (rw h at column)

@@ -1,4 +1,4 @@
--- Elimination in exact arithmetic solves its equations: where `gaussJordan` answers `solved B` for A, the first n columns of B are the identity, and column j
+-- Elimination in exact arithmetic solves its equations: where `gauss_jordan` answers `solved B` for A, the first n columns of B are the identity, and column j
 -- of B is the one solution x of (A's first n columns) x = column j of A.
 use mathlib.Core.Path.{◌≡◌, refl, sym, ap, ◌∙◌, subst}
 use mathlib.Core.Logic.{◌≢◌, ◌↔◌, ⊎_elim}
@@ -10,12 +10,12 @@ use lib.Dec.{eqb}
 use borrow.Author.Tests.{eqb-true, eq-eqb, ne_eqb, lt-ltb, le-ltb}
 use Rattle.basics.proofs.Tests.{zero-not-one}
 use Rattle.fit_linear.specs.Arithmetic.{Arith}
-use Rattle.fit_linear.specs.Elimination.{Elimination, solved, singular, matrixOf, and_then, Matrix, system, pivotRow, swapped, normalized, cleared, reduced, columnSolved, columnsSolved, gaussJordan}
-use Rattle.fit_linear.specs.Exact.{IsExact, fieldSum, unit, Solves, Expected}
+use Rattle.fit_linear.specs.Elimination.{Elimination, solved, singular, matrix_of, and_then, Matrix, system, pivot_row, swapped, normalized, cleared, reduced, column_solved, columns_solved, gauss_jordan}
+use Rattle.fit_linear.specs.Exact.{IsExact, field_sum, unit, Solves, Expected}
 use Rattle.fit_linear.proofs.Pivot.{pivot-within}
 
 module _ (F : Arith) (E : IsExact F) where
-  open F use {Num, 𝟘, 𝟙, neg, ◌⊕◌, ◌⊖◌, ◌⊗◌, ◌⊘◌, size, is_zero, isTiny}
+  open F use {Num, 𝟘, 𝟙, neg, ◌⊕◌, ◌⊖◌, ◌⊗◌, ◌⊘◌, size, is_zero, is_tiny}
   open E use {⊕-comm, ⊕-assoc, ⊕-zero, ⊕-neg, ⊗-comm, ⊗-assoc, ⊗-one, ⊗-⊕, ⊗-inverse, ⊖-is, ⊘-is, zero-known, zero-tiny}
 
   infixl 65 ◌⊕◌
@@ -27,7 +27,7 @@ module _ (F : Arith) (E : IsExact F) where
 
   -- a row's equation
   abbrev Holds : ℕ → ℕ → (ℕ → Num) → (ℕ → Num) → Type 0
-  Holds n j x row = fieldSum F n (λ k. row k ⊗ x k) ≡ row j
+  Holds n j x row = field_sum F n (λ k. row k ⊗ x k) ≡ row j
 
   -- ---- laws of a field
   cancel : (a b c : Num) → a ⊕ b ≡ c ⊕ b → a ≡ c
@@ -70,23 +70,23 @@ module _ (F : Arith) (E : IsExact F) where
   exchange a b c d = ⊕-assoc a b (c ⊕ d) ∙ ap (λ s. a ⊕ s) (sym (⊕-assoc b c d) ∙ ap (λ s. s ⊕ d) (⊕-comm b c) ∙ ⊕-assoc c b d) ∙ sym (⊕-assoc a c (b ⊕ d))
 
   -- ---- sums
-  sum_same : (n : ℕ) (f g : ℕ → Num) → ((k : ℕ) → k < n → f k ≡ g k) → fieldSum F n f ≡ fieldSum F n g
-  unfolding fieldSum
+  sum_same : (n : ℕ) (f g : ℕ → Num) → ((k : ℕ) → k < n → f k ≡ g k) → field_sum F n f ≡ field_sum F n g
+  unfolding field_sum
   sum_same zero f g e = refl
-  sum_same (suc n) f g e = ap (λ s. s ⊕ f n) (sum_same n f g (λ k hk. e k (omega arith))) ∙ ap (λ s. fieldSum F n g ⊕ s) (e n (omega arith))
+  sum_same (suc n) f g e = ap (λ s. s ⊕ f n) (sum_same n f g (λ k hk. e k (omega arith))) ∙ ap (λ s. field_sum F n g ⊕ s) (e n (omega arith))
 
-  sum-scaled : (n : ℕ) (b : Num) (v x : ℕ → Num) → fieldSum F n (λ k. b ⊗ v k ⊗ x k) ≡ b ⊗ fieldSum F n (λ k. v k ⊗ x k)
-  unfolding fieldSum
+  sum-scaled : (n : ℕ) (b : Num) (v x : ℕ → Num) → field_sum F n (λ k. b ⊗ v k ⊗ x k) ≡ b ⊗ field_sum F n (λ k. v k ⊗ x k)
+  unfolding field_sum
   sum-scaled zero b v x = sym (⊗-zero b)
-  sum-scaled (suc n) b v x = ap (λ s. s ⊕ b ⊗ v n ⊗ x n) (sum-scaled n b v x) ∙ ap (λ s. b ⊗ fieldSum F n (λ k. v k ⊗ x k) ⊕ s) (⊗-assoc b (v n) (x n))
+  sum-scaled (suc n) b v x = ap (λ s. s ⊕ b ⊗ v n ⊗ x n) (sum-scaled n b v x) ∙ ap (λ s. b ⊗ field_sum F n (λ k. v k ⊗ x k) ⊕ s) (⊗-assoc b (v n) (x n))
       ∙ sym (⊗-⊕ b _ _)
 
-  sum-plus : (n : ℕ) (u v x : ℕ → Num) → fieldSum F n (λ k. (u k ⊕ v k) ⊗ x k) ≡ fieldSum F n (λ k. u k ⊗ x k) ⊕ fieldSum F n (λ k. v k ⊗ x k)
-  unfolding fieldSum
+  sum-plus : (n : ℕ) (u v x : ℕ → Num) → field_sum F n (λ k. (u k ⊕ v k) ⊗ x k) ≡ field_sum F n (λ k. u k ⊗ x k) ⊕ field_sum F n (λ k. v k ⊗ x k)
+  unfolding field_sum
   sum-plus zero u v x = sym (⊕-zero 𝟘)
   sum-plus (suc n) u v x =
       ap (λ s. s ⊕ (u n ⊕ v n) ⊗ x n) (sum-plus n u v x)
-      ∙ ap (λ s. fieldSum F n (λ k. u k ⊗ x k) ⊕ fieldSum F n (λ k. v k ⊗ x k) ⊕ s) (⊕-⊗ (u n) (v n) (x n))
+      ∙ ap (λ s. field_sum F n (λ k. u k ⊗ x k) ⊕ field_sum F n (λ k. v k ⊗ x k) ⊕ s) (⊕-⊗ (u n) (v n) (x n))
       ∙ exchange _ _ _ _
 
   -- ---- rows
@@ -97,14 +97,14 @@ module _ (F : Arith) (E : IsExact F) where
   row_scaled n j x u v b e h = sum_same n _ _ (λ k hk. ap (λ s. s ⊗ x k) (e k)) ∙ sum-scaled n b v x ∙ ap (λ s. b ⊗ s) h ∙ sym (e j)
 
   row-sum : (n j : ℕ) (x u v w : ℕ → Num) → ((k : ℕ) → u k ≡ w k ⊕ v k)
-      → fieldSum F n (λ k. u k ⊗ x k) ≡ fieldSum F n (λ k. w k ⊗ x k) ⊕ fieldSum F n (λ k. v k ⊗ x k)
+      → field_sum F n (λ k. u k ⊗ x k) ≡ field_sum F n (λ k. w k ⊗ x k) ⊕ field_sum F n (λ k. v k ⊗ x k)
   row-sum n j x u v w e = sum_same n _ _ (λ k hk. ap (λ s. s ⊗ x k) (e k)) ∙ sum-plus n w v x
 
   row-plus : (n j : ℕ) (x u v w : ℕ → Num) → ((k : ℕ) → u k ≡ w k ⊕ v k) → Holds n j x v → Holds n j x w → Holds n j x u
-  row-plus n j x u v w e hv hw = row-sum n j x u v w e ∙ ap (λ s. s ⊕ fieldSum F n (λ k. v k ⊗ x k)) hw ∙ ap (λ s. w j ⊕ s) hv ∙ sym (e j)
+  row-plus n j x u v w e hv hw = row-sum n j x u v w e ∙ ap (λ s. s ⊕ field_sum F n (λ k. v k ⊗ x k)) hw ∙ ap (λ s. w j ⊕ s) hv ∙ sym (e j)
 
   row-less : (n j : ℕ) (x u v w : ℕ → Num) → ((k : ℕ) → u k ≡ w k ⊕ v k) → Holds n j x v → Holds n j x u → Holds n j x w
-  row-less n j x u v w e hv hu = cancel _ (v j) _ (ap (λ s. fieldSum F n (λ k. w k ⊗ x k) ⊕ s) (sym hv) ∙ sym (row-sum n j x u v w e) ∙ hu ∙ e j)
+  row-less n j x u v w e hv hu = cancel _ (v j) _ (ap (λ s. field_sum F n (λ k. w k ⊗ x k) ⊕ s) (sym hv) ∙ sym (row-sum n j x u v w e) ∙ hu ∙ e j)
 
   -- ---- a step keeps the solutions
   module _ (n j : ℕ) (x : ℕ → Num) (A : Matrix F) (c p : ℕ) where
@@ -211,12 +211,12 @@ module _ (F : Arith) (E : IsExact F) where
   abbrev After : ℕ → Matrix F → ℕ → Matrix F → Type 0
   After n A c B = ((j : ℕ) (x : ℕ → Num) → Solves F n A j x ↔ Solves F n B j x) × Units n B c
 
-  column-after : (n : ℕ) (A C B : Matrix F) (c : ℕ) → c < n → After n A c C → columnSolved F n C c ≡ solved B → After n A (suc c) B
-  unfolding columnSolved swapped
-  column-after n A C B c hc (same, units) e = go (isTiny (size (C p c))) refl e
+  column-after : (n : ℕ) (A C B : Matrix F) (c : ℕ) → c < n → After n A c C → column_solved F n C c ≡ solved B → After n A (suc c) B
+  unfolding column_solved swapped
+  column-after n A C B c hc (same, units) e = go (is_tiny (size (C p c))) refl e
     where
       p : ℕ
-      p = pivotRow F C c (n - (c + 1))
+      p = pivot_row F C c (n - (c + 1))
 
       S : Matrix F
       S = swapped F C c p
@@ -229,11 +229,11 @@ module _ (F : Arith) (E : IsExact F) where
       top : S c c ≡ C p c
       top = rw (eq-eqb c c refl)
 
-      go : (b : Bool) → isTiny (size (C p c)) ≡ b → cond b (singular C) (solved (reduced F S c)) ≡ solved B → After n A (suc c) B
+      go : (b : Bool) → is_tiny (size (C p c)) ≡ b → cond b (singular C) (solved (reduced F S c)) ≡ solved B → After n A (suc c) B
       go true f q = absurd (singular-not C B q)
       go false f q =
-          let pivot : S c c ≢ 𝟘 = λ z. true≢false (sym zero-tiny ∙ ap (λ s. isTiny (size s)) (sym z ∙ top) ∙ f) in
-          subst (λ (D : Matrix F). After n A (suc c) D) (ap matrixOf q) (
+          let pivot : S c c ≢ 𝟘 = λ z. true≢false (sym zero-tiny ∙ ap (λ s. is_tiny (size s)) (sym z ∙ top) ∙ f) in
+          subst (λ (D : Matrix F). After n A (suc c) D) (ap matrix_of q) (
             (λ j x. (
               (λ h. reduce-keeps n j x S c p hc pivot (swap-keeps n j x C c p hc in_rows.1 ((same j x).0 h))),
               (λ h. (same j x).1 (swap-back n j x C c p hc in_rows.1 (reduce-back n j x S c p hc pivot h))),
@@ -241,25 +241,25 @@ module _ (F : Arith) (E : IsExact F) where
             reduce-units n S c hc pivot (swap-units n C c p hc in_rows.1 in_rows.0 units),
           )
 
-  columns-after : (n : ℕ) (A B : Matrix F) (c : ℕ) → c ≤ n → columnsSolved F n A c ≡ solved B → After n A c B
-  unfolding columnsSolved
+  columns-after : (n : ℕ) (A B : Matrix F) (c : ℕ) → c ≤ n → columns_solved F n A c ≡ solved B → After n A c B
+  unfolding columns_solved
   columns-after n A B zero hc e =
-      subst (λ (D : Matrix F). After n A zero D) (ap matrixOf e) ((λ j x. ((λ h. h), (λ h. h))), (λ r k hr hk. absurd (omega arith)))
-  columns-after n A B (suc c) hc e = go (columnsSolved F n A c) (λ C q. columns-after n A C c (omega arith) q) refl e
+      subst (λ (D : Matrix F). After n A zero D) (ap matrix_of e) ((λ j x. ((λ h. h), (λ h. h))), (λ r k hr hk. absurd (omega arith)))
+  columns-after n A B (suc c) hc e = go (columns_solved F n A c) (λ C q. columns-after n A C c (omega arith) q) refl e
     where
-      go : (a : Elimination Num) → ((C : Matrix F) → columnsSolved F n A c ≡ solved C → After n A c C) → columnsSolved F n A c ≡ a
-          → and_then a (λ C. columnSolved F n C c) ≡ solved B → After n A (suc c) B
+      go : (a : Elimination Num) → ((C : Matrix F) → columns_solved F n A c ≡ solved C → After n A c C) → columns_solved F n A c ≡ a
+          → and_then a (λ C. column_solved F n C c) ≡ solved B → After n A (suc c) B
       go (solved C) ih q f = column-after n A C B c hc (ih C q) f
       go (singular C) ih q f = absurd (singular-not C B f)
 
   -- ---- unit columns give each unknown
-  sum-none : (n : ℕ) (f : ℕ → Num) → ((k : ℕ) → k < n → f k ≡ 𝟘) → fieldSum F n f ≡ 𝟘
-  unfolding fieldSum
+  sum-none : (n : ℕ) (f : ℕ → Num) → ((k : ℕ) → k < n → f k ≡ 𝟘) → field_sum F n f ≡ 𝟘
+  unfolding field_sum
   sum-none zero f h = refl
   sum-none (suc n) f h = ap (λ s. s ⊕ f n) (sum-none n f (λ k hk. h k (omega arith))) ∙ zero-⊕ (f n) ∙ h n (omega arith)
 
-  sum_one : (n : ℕ) (f : ℕ → Num) (r : ℕ) → r < n → ((k : ℕ) → k < n → k ≢ r → f k ≡ 𝟘) → fieldSum F n f ≡ f r
-  unfolding fieldSum
+  sum_one : (n : ℕ) (f : ℕ → Num) (r : ℕ) → r < n → ((k : ℕ) → k < n → k ≢ r → f k ≡ 𝟘) → field_sum F n f ≡ f r
+  unfolding field_sum
   sum_one zero f r hr h = absurd (omega arith)
   sum_one (suc n) f r hr h =
       ⊎_elim
@@ -267,7 +267,7 @@ module _ (F : Arith) (E : IsExact F) where
       (λ (q : r < n). ap (λ s. s ⊕ f n) (sum_one n f r q (λ k hk. h k (omega arith))) ∙ ap (λ s. f r ⊕ s) (h n (omega arith) (omega arith)) ∙ ⊕-zero (f r))
       (eq-or-lt_of_le (omega arith))
 
-  unit_row : (n : ℕ) (B : Matrix F) → Units n B n → (x : ℕ → Num) (r : ℕ) → r < n → fieldSum F n (λ k. B r k ⊗ x k) ≡ x r
+  unit_row : (n : ℕ) (B : Matrix F) → Units n B n → (x : ℕ → Num) (r : ℕ) → r < n → field_sum F n (λ k. B r k ⊗ x k) ≡ x r
   unit_row n B units x r hr =
       sum_one n (λ k. B r k ⊗ x k) r hr (λ k hk ne. ap (λ s. s ⊗ x k) (units r k hr hk ∙ off r k (λ e. ne (sym e))) ∙ zero-⊗ (x k))
       ∙ ap (λ s. s ⊗ x r) (units r r hr hr ∙ on)
@@ -280,11 +280,11 @@ module _ (F : Arith) (E : IsExact F) where
   -- ---- the claims. Where A's first n columns are solved, leaving B:
 
   -- B's first n columns are the unit matrix
-  pub solved-units : (n : ℕ) (A B : Matrix F) → gaussJordan F n A ≡ solved B → (r k : ℕ) → r < n → k < n → B r k ≡ unit F r k
+  pub solved-units : (n : ℕ) (A B : Matrix F) → gauss_jordan F n A ≡ solved B → (r k : ℕ) → r < n → k < n → B r k ≡ unit F r k
   solved-units n A B e = (columns-after n A B n (omega arith) e).1
 
   -- whatever the right side j: x solves A's equations exactly if x is column j of B
-  pub solved-solves : (n : ℕ) (A B : Matrix F) → gaussJordan F n A ≡ solved B → (j : ℕ) (x : ℕ → Num) → Solves F n A j x ↔ ((r : ℕ) → r < n → x r ≡ B r j)
+  pub solved-solves : (n : ℕ) (A B : Matrix F) → gauss_jordan F n A ≡ solved B → (j : ℕ) (x : ℕ → Num) → Solves F n A j x ↔ ((r : ℕ) → r < n → x r ≡ B r j)
   solved-solves n A B e j x =
       let h = columns-after n A B n (omega arith) e in (
         (λ s r hr. sym (unit_row n B h.1 x r hr) ∙ (h.0 j x).0 s r hr),
@@ -292,18 +292,18 @@ module _ (F : Arith) (E : IsExact F) where
       )
 
   -- so column j of B is a solution: row r of A times column j of B is A(r, j)
-  pub solved-column : (n : ℕ) (A B : Matrix F) → gaussJordan F n A ≡ solved B → (j r : ℕ) → r < n → fieldSum F n (λ k. A r k ⊗ B k j) ≡ A r j
+  pub solved-column : (n : ℕ) (A B : Matrix F) → gauss_jordan F n A ≡ solved B → (j r : ℕ) → r < n → field_sum F n (λ k. A r k ⊗ B k j) ≡ A r j
   solved-column n A B e j = (solved-solves n A B e j (λ k. B k j)).1 (λ r hr. refl)
 
   -- ---- for a system (1 − Q) x = column j: that is the equation x = column j + Q x, of what comes at once and what comes after a step of Q
   pub one_less : (n : ℕ) (A Q : Matrix F) → ((r k : ℕ) → r < n → k < n → A r k ≡ unit F r k ⊖ Q r k) → (j : ℕ) (x : ℕ → Num)
-      → Solves F n A j x ↔ ((r : ℕ) → r < n → x r ≡ A r j ⊕ fieldSum F n (λ k. Q r k ⊗ x k))
+      → Solves F n A j x ↔ ((r : ℕ) → r < n → x r ≡ A r j ⊕ field_sum F n (λ k. Q r k ⊗ x k))
   one_less n A Q is j x = (
-    (λ s r hr. sym (parts r hr) ∙ ap (λ t. t ⊕ fieldSum F n (λ k. Q r k ⊗ x k)) (s r hr)),
-    (λ s r hr. cancel _ (fieldSum F n (λ k. Q r k ⊗ x k)) _ (parts r hr ∙ s r hr)),
+    (λ s r hr. sym (parts r hr) ∙ ap (λ t. t ⊕ field_sum F n (λ k. Q r k ⊗ x k)) (s r hr)),
+    (λ s r hr. cancel _ (field_sum F n (λ k. Q r k ⊗ x k)) _ (parts r hr ∙ s r hr)),
   )
     where
-      parts : (r : ℕ) → r < n → fieldSum F n (λ k. A r k ⊗ x k) ⊕ fieldSum F n (λ k. Q r k ⊗ x k) ≡ x r
+      parts : (r : ℕ) → r < n → field_sum F n (λ k. A r k ⊗ x k) ⊕ field_sum F n (λ k. Q r k ⊗ x k) ≡ x r
       parts r hr =
           sym (sum-plus n (A r) (Q r) x)
           ∙ sum_same n (λ k. (A r k ⊕ Q r k) ⊗ x k) (λ k. unit F r k ⊗ x k)
@@ -311,9 +311,9 @@ module _ (F : Arith) (E : IsExact F) where
           ∙ unit_row n (unit F) (λ r k hr hk. refl) x r hr
 
   -- elimination of such a system gives the one x with x = column j + Q x
-  pub solved-one-less : (n : ℕ) (A B Q : Matrix F) → ((r k : ℕ) → r < n → k < n → A r k ≡ unit F r k ⊖ Q r k) → gaussJordan F n A ≡ solved B
+  pub solved-one-less : (n : ℕ) (A B Q : Matrix F) → ((r k : ℕ) → r < n → k < n → A r k ≡ unit F r k ⊖ Q r k) → gauss_jordan F n A ≡ solved B
       → (j : ℕ) (x : ℕ → Num)
-      → ((r : ℕ) → r < n → x r ≡ A r j ⊕ fieldSum F n (λ k. Q r k ⊗ x k)) ↔ ((r : ℕ) → r < n → x r ≡ B r j)
+      → ((r : ℕ) → r < n → x r ≡ A r j ⊕ field_sum F n (λ k. Q r k ⊗ x k)) ↔ ((r : ℕ) → r < n → x r ≡ B r j)
   solved-one-less n A B Q is e j x = (
     (λ s. (solved-solves n A B e j x).0 ((one_less n A Q is j x).1 s)),
     (λ s. (one_less n A Q is j x).0 ((solved-solves n A B e j x).1 s)),
@@ -346,15 +346,15 @@ module _ (F : Arith) (E : IsExact F) where
         let e : n + 2 + y - (n + 2) ≡ y = omega arith in
         rw (le-ltb (n + 2 + y) n (omega arith), ne_eqb (n + 2 + y) n (omega arith), ne_eqb (n + 2 + y) (n + 1) (omega arith), e)
 
-    expected : (B : Matrix F) → gaussJordan F n A ≡ solved B → (j : ℕ) (b : ℕ → Num) → ((r : ℕ) → A r j ≡ b r) → (x : ℕ → Num)
+    expected : (B : Matrix F) → gauss_jordan F n A ≡ solved B → (j : ℕ) (b : ℕ → Num) → ((r : ℕ) → A r j ≡ b r) → (x : ℕ → Num)
         → Expected F n Q b x ↔ ((r : ℕ) → r < n → x r ≡ B r j)
     expected B e j b is x =
         let h = solved-one-less n A B Q system-left e j x in (
-          (λ s. h.0 (λ r hr. s r hr ∙ ap (λ t. t ⊕ fieldSum F n (λ k. Q r k ⊗ x k)) (sym (is r)))),
-          (λ s r hr. h.1 s r hr ∙ ap (λ t. t ⊕ fieldSum F n (λ k. Q r k ⊗ x k)) (is r)),
+          (λ s. h.0 (λ r hr. s r hr ∙ ap (λ t. t ⊕ field_sum F n (λ k. Q r k ⊗ x k)) (sym (is r)))),
+          (λ s r hr. h.1 s r hr ∙ ap (λ t. t ⊕ field_sum F n (λ k. Q r k ⊗ x k)) (is r)),
         )
 
-    pub system-solves : (B : Matrix F) → gaussJordan F n A ≡ solved B → (x : ℕ → Num)
+    pub system-solves : (B : Matrix F) → gauss_jordan F n A ≡ solved B → (x : ℕ → Num)
         → (Expected F n Q K x ↔ ((r : ℕ) → r < n → x r ≡ B r n))
         × (Expected F n Q fallback x ↔ ((r : ℕ) → r < n → x r ≡ B r (n + 1)))
         × ((y : ℕ) → Expected F n Q (λ r. T r y) x ↔ ((r : ℕ) → r < n → x r ≡ B r (n + 2 + y)))

@@ -10,10 +10,10 @@ use lib.Dec.{eqb, leb}
 use borrow.Author.Tests.{eqb-true, eqb-false, leb-true, leb-false}
 use Rattle.basics.proofs.Tests.{both}
 use Rattle.fit_linear.specs.Arithmetic.{Arith}
-use Rattle.fit_linear.specs.Elimination.{solved, matrixOf, gaussJordan, columnsSolved, columnSolved, pivotRow, swapped, reduced, cleared}
+use Rattle.fit_linear.specs.Elimination.{solved, matrix_of, gauss_jordan, columns_solved, column_solved, pivot_row, swapped, reduced, cleared}
 use Rattle.fit_linear.specs.Exact.{IsExact, unit, Solves}
 use Rattle.fit_linear.proofs.Exact.{solved-units, solved-solves}
-use Rattle.fit_linear.proofs.Ratios.{Ratio, Alike, Fraction, plus, times, less, whole, gap, square, flip, sizeRatio, leRatio, plus-left, plus-right, times-left, times-right, less-alike, size-alike, le_left, le_right, flip-alike}
+use Rattle.fit_linear.proofs.Ratios.{Ratio, Alike, Fraction, plus, times, less, whole, gap, square, flip, size_ratio, le_ratio, plus-left, plus-right, times-left, times-right, less-alike, size-alike, le_left, le_right, flip-alike}
 
 abbrev pub frac : Ratio → Fraction
 frac x = mk x
@@ -42,10 +42,10 @@ abbrev pub inverse : Fraction → Fraction
 inverse = lift Quot-set (λ x. frac (flip x)) (λ x y h. sound (flip-alike x y h))
 
 abbrev pub size_of : Fraction → Fraction
-size_of = lift Quot-set (λ x. frac (sizeRatio x)) (λ x y h. sound (size-alike x y h))
+size_of = lift Quot-set (λ x. frac (size_ratio x)) (λ x y h. sound (size-alike x y h))
 
 abbrev pub leq : Fraction → Fraction → Bool
-leq = lifted Bool-set leRatio le_left le_right
+leq = lifted Bool-set le_ratio le_left le_right
 
 -- 1e-12
 abbrev tolerance : Fraction
@@ -65,11 +65,11 @@ exact =
       ◌⊘◌ = λ x y. ◌⊠◌ x (inverse y);
       start = frac (whole 0);
       size = size_of;
-      asGreat = leq;
+      as_great = leq;
       max = λ x y. cond (leq x y) y x;
       is_zero = λ x. leq x (frac (whole 0)) && leq (frac (whole 0)) x;
-      isInfinite = λ x. false;
-      isTiny = λ x. not (leq tolerance x);
+      is_infinite = λ x. false;
+      is_tiny = λ x. not (leq tolerance x);
       clamp = λ x. cond (leq x (frac (whole 0))) (frac (whole 0)) (cond (leq (frac (whole 1)) x) (frac (whole 1)) x);
     }
 
@@ -119,13 +119,13 @@ pub ⊠-⊞ : (x y z : Fraction) → x ⊠ (y ⊞ z) ≡ x ⊠ y ⊞ x ⊠ z
     eq3 (λ x y z. x ⊠ (y ⊞ z)) (λ x y z. x ⊠ y ⊞ x ⊠ z)
     (λ a b c. alike (times a (plus b c)) (plus (times a b) (times a c)) (scaled _ _ _ _ _ _ a.over (omega arith) (omega arith) (omega arith)))
 
-ordered : (x y : Ratio) → leRatio x y ≡ true → x.up * y.over + y.down * x.over ≤ y.up * x.over + x.down * y.over
+ordered : (x y : Ratio) → le_ratio x y ≡ true → x.up * y.over + y.down * x.over ≤ y.up * x.over + x.down * y.over
 ordered x y e = leb-true _ _ e
 
 pub zero_is : (x : Fraction) → exact.is_zero x ≡ true → x ≡ frac (whole 0)
 zero_is =
     ind {β = λ x. exact.is_zero x ≡ true → x ≡ frac (whole 0)} (λ x. Π_prop (λ h. Quot-set x (frac (whole 0))))
-    (λ a h. let t = both (leRatio a (whole 0)) (leRatio (whole 0) a) h in
+    (λ a h. let t = both (le_ratio a (whole 0)) (le_ratio (whole 0) a) h in
     alike a (whole 0) (omega (arith, ordered a (whole 0) t.0, ordered (whole 0) a t.1)))
 
 -- one number more than the other by a, not 0
@@ -200,10 +200,10 @@ exact-is =
 
 -- ---- elimination of fractions: the identity on the left, on the right the one solution
 
-pub fractions-units : (n : ℕ) (A B : ℕ → ℕ → Fraction) → gaussJordan exact n A ≡ solved B → (r k : ℕ) → r < n → k < n → B r k ≡ unit exact r k
+pub fractions-units : (n : ℕ) (A B : ℕ → ℕ → Fraction) → gauss_jordan exact n A ≡ solved B → (r k : ℕ) → r < n → k < n → B r k ≡ unit exact r k
 fractions-units = solved-units exact exact-is
 
-pub fractions-solve : (n : ℕ) (A B : ℕ → ℕ → Fraction) → gaussJordan exact n A ≡ solved B → (j : ℕ) (x : ℕ → Fraction)
+pub fractions-solve : (n : ℕ) (A B : ℕ → ℕ → Fraction) → gauss_jordan exact n A ≡ solved B → (j : ℕ) (x : ℕ → Fraction)
     → Solves exact n A j x ↔ ((r : ℕ) → r < n → x r ≡ B r j)
 fractions-solve = solved-solves exact exact-is
 
@@ -217,6 +217,6 @@ example (suc r) zero = frac (whole 1)
 example (suc r) (suc zero) = frac (less (whole 1))
 example (suc r) (suc (suc k)) = frac (whole 1)
 
-pub example-solved : (matrixOf (gaussJordan exact 2 example) 0 2 ≡ frac (whole 2)) × (matrixOf (gaussJordan exact 2 example) 1 2 ≡ frac (whole 1))
-unfolding example columnsSolved columnSolved pivotRow swapped reduced cleared
+pub example-solved : (matrix_of (gauss_jordan exact 2 example) 0 2 ≡ frac (whole 2)) × (matrix_of (gauss_jordan exact 2 example) 1 2 ≡ frac (whole 1))
+unfolding example columns_solved column_solved pivot_row swapped reduced cleared
 example-solved = (sound refl, sound refl)

@@ -49,8 +49,8 @@ whole n = record { up = n; down = 0; over = 1; some = omega arith }
 abbrev pub gap : ℕ → ℕ → ℕ
 gap u m = (u - m) + (m - u)
 
-abbrev pub sizeRatio : Ratio → Ratio
-sizeRatio x = record { up = gap x.up x.down; down = 0; over = x.over; some = x.some }
+abbrev pub size_ratio : Ratio → Ratio
+size_ratio x = record { up = gap x.up x.down; down = 0; over = x.over; some = x.some }
 
 -- the square of a number, and 1 for 0
 abbrev pub square : ℕ → ℕ
@@ -109,7 +109,7 @@ gap-alike x y h = go (leb x.down x.up) refl
         let k = half x.down x.up x.over y.down y.up y.over x.some (omega arith) (omega arith) in
         ap (λ s. s * y.over) (omega arith) ∙ k.1 ∙ ap (λ s. s * x.over) (omega (arith, k.0))
 
-pub size-alike : (x y : Ratio) → Alike x y → Alike (sizeRatio x) (sizeRatio y)
+pub size-alike : (x y : Ratio) → Alike x y → Alike (size_ratio x) (size_ratio y)
 size-alike x y h = omega (arith, gap-alike x y h)
 
 leb-same : (a b c d : ℕ) → (a ≤ b → c ≤ d) → (c ≤ d → a ≤ b) → leb a b ≡ leb c d
@@ -129,8 +129,8 @@ leb-same a b c d f g = go (leb a b) refl (leb c d) refl
 
 -- ---- the order
 
-abbrev pub leRatio : Ratio → Ratio → Bool
-leRatio x y = leb (x.up * y.over + y.down * x.over) (y.up * x.over + x.down * y.over)
+abbrev pub le_ratio : Ratio → Ratio → Bool
+le_ratio x y = leb (x.up * y.over + y.down * x.over) (y.up * x.over + x.down * y.over)
 
 moved-left : (x x' y : Ratio) → Alike x x' → x.up * y.over + y.down * x.over ≤ y.up * x.over + x.down * y.over
     → x'.up * y.over + y.down * x'.over ≤ y.up * x'.over + x'.down * y.over
@@ -140,10 +140,10 @@ moved-right : (x y y' : Ratio) → Alike y y' → x.up * y.over + y.down * x.ove
     → x.up * y'.over + y'.down * x.over ≤ y'.up * x.over + x.down * y'.over
 moved-right x y y' e h = le_of_mul-le-mul_right (omega (arith, mul-le-mul_right y'.over h, ap (λ s. s * x.over) e)) y.some
 
-pub le_left : (x x' y : Ratio) → Alike x x' → leRatio x y ≡ leRatio x' y
+pub le_left : (x x' y : Ratio) → Alike x x' → le_ratio x y ≡ le_ratio x' y
 le_left x x' y e = leb-same _ _ _ _ (moved-left x x' y e) (moved-left x' x y (sym e))
 
-pub le_right : (x y y' : Ratio) → Alike y y' → leRatio x y ≡ leRatio x y'
+pub le_right : (x y y' : Ratio) → Alike y y' → le_ratio x y ≡ le_ratio x y'
 le_right x y y' e = leb-same _ _ _ _ (moved-right x y y' e) (moved-right x y' y (sym e))
 
 -- ---- the inverse

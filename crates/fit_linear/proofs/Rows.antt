@@ -11,7 +11,7 @@ use borrow.Author.Tests.{eqb-true, eqb-false}
 use lib.Dec.{eqb}
 use lib.Ieee.{Float, binary64, sub, mul, div, eq}
 use Rattle.basics.proofs.Tests.{row_in}
-use Rattle.floats.specs.Floats.{posZero}
+use Rattle.floats.specs.Floats.{pos_zero}
 use Rattle.floats.proofs.Signs.{Three, less, same, more, three}
 use Rattle.fit_linear.specs.Arithmetic.{rounded}
 use Rattle.fit_linear.specs.Elimination.{swapped, normalized, cleared, reduced}
@@ -22,16 +22,16 @@ use Rattle.fit_linear.proofs.Parts.{outside-row}
 -- ---- one row cleared
 
 module _ (w c r : ℕ) (l : List Float) where
-  abbrev pub clearedRow : ℕ → Float
-  clearedRow = cleared rounded (rows_of w l r c) (rows_of w l r) (rows_of w l c)
+  abbrev pub cleared_row : ℕ → Float
+  cleared_row = cleared rounded (rows_of w l r c) (rows_of w l r) (rows_of w l c)
 
-  pub clear_none : eq (rows_of w l r c) posZero ≡ true → Filled (r * w) w clearedRow l l
+  pub clear_none : eq (rows_of w l r c) pos_zero ≡ true → Filled (r * w) w cleared_row l l
   unfolding cleared
   clear_none h = record { cells = λ k g. rw h; elsewhere = λ i g. refl }
 
-  pub clear-some : {m : List Float} → eq (rows_of w l r c) posZero ≡ false
+  pub clear-some : {m : List Float} → eq (rows_of w l r c) pos_zero ≡ false
       → Filled (r * w) w (λ k. sub binary64 (rows_of w l r k) (mul binary64 (rows_of w l r c) (rows_of w l c k))) l m
-      → Filled (r * w) w clearedRow l m
+      → Filled (r * w) w cleared_row l m
   unfolding cleared
   clear-some h f = record { cells = λ k g. rw h (f.cells k g); elsewhere = f.elsewhere }
 
@@ -41,7 +41,7 @@ pub cleared-rows-none : {w c lo : ℕ} {l : List Float} → ClearedRows w c lo l
 cleared-rows-none = record { cells = λ r k h g j. absurd (omega arith); elsewhere = λ i h. refl }
 
 pub cleared-rows-more : {w c lo r : ℕ} {l m m' : List Float} → c < w → lo ≤ r → (c < lo) ⊎ (r < c)
-    → ClearedRows w c lo r l m → Filled (r * w) w (clearedRow w c r m) m m' → ClearedRows w c lo (r + 1) l m'
+    → ClearedRows w c lo r l m → Filled (r * w) w (cleared_row w c r m) m m' → ClearedRows w c lo (r + 1) l m'
 unfolding cleared
 cleared-rows-more {w} {c} {lo} {r} {l} {m} hc low apart s f =
     record {
@@ -101,7 +101,7 @@ module _
   other r k h g = t.elsewhere (r * w + k) (outside-row w r c k h g) ∙ swap-cells w c p l m s r k g
 
   -- a row cleared by the divided row
-  row : (r k : ℕ) → r ≢ c → k < w → clearedRow w c r d k ≡ cleared rounded (S r c) (S r) (normalized rounded S c) k
+  row : (r k : ℕ) → r ≢ c → k < w → cleared_row w c r d k ≡ cleared rounded (S r c) (S r) (normalized rounded S c) k
   unfolding cleared
   row r k h g = rw (other r c h (omega arith), other r k h g, own k g)
 

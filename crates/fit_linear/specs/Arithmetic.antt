@@ -18,13 +18,13 @@ pub record Arith : Type 1 where
   pub start : Num
   pub size : Num → Num
   -- of two sizes, the second is as great or greater
-  pub asGreat : Num → Num → Bool
+  pub as_great : Num → Num → Bool
   -- the larger of two sizes
   pub max : Num → Num → Num
   pub is_zero : Num → Bool
-  pub isInfinite : Num → Bool
+  pub is_infinite : Num → Bool
   -- a size below 1e-12
-  pub isTiny : Num → Bool
+  pub is_tiny : Num → Bool
   -- clamped to 0..1
   pub clamp : Num → Num
 
@@ -33,19 +33,19 @@ abbrev pub rounded : Arith
 rounded =
     record {
       Num = Float;
-      𝟘 = Floats.posZero;
+      𝟘 = Floats.pos_zero;
       𝟙 = Floats.one;
       neg = neg;
       ◌⊕◌ = add binary64;
       ◌⊖◌ = sub binary64;
       ◌⊗◌ = mul binary64;
       ◌⊘◌ = div binary64;
-      start = Floats.negZero;
+      start = Floats.neg_zero;
       size = Floats.abs;
-      asGreat = Floats.asGreat;
+      as_great = Floats.as_great;
       max = Floats.max;
-      is_zero = λ x. eq x Floats.posZero;
-      isInfinite = Floats.isInfinite;
-      isTiny = λ x. lt x Floats.tiny;
+      is_zero = λ x. eq x Floats.pos_zero;
+      is_infinite = Floats.is_infinite;
+      is_tiny = λ x. lt x Floats.tiny;
       clamp = Floats.clamp;
     }

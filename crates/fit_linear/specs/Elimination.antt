@@ -9,16 +9,16 @@ pub data Elimination (Num : Type 0) : Type 0 where
   solved : (ℕ → ℕ → Num) → Elimination Num
   singular : (ℕ → ℕ → Num) → Elimination Num
 
-abbrev pub matrixOf : {Num : Type 0} → Elimination Num → ℕ → ℕ → Num
-matrixOf (solved A) = A
-matrixOf (singular A) = A
+abbrev pub matrix_of : {Num : Type 0} → Elimination Num → ℕ → ℕ → Num
+matrix_of (solved A) = A
+matrix_of (singular A) = A
 
 abbrev pub and_then : {Num : Type 0} → Elimination Num → ((ℕ → ℕ → Num) → Elimination Num) → Elimination Num
 and_then (solved A) next = next A
 and_then (singular A) next = singular A
 
 module _ (F : Arith) where
-  open F use {Num, 𝟘, 𝟙, neg, ◌⊖◌, ◌⊗◌, ◌⊘◌, size, asGreat, is_zero, isTiny}
+  open F use {Num, 𝟘, 𝟙, neg, ◌⊖◌, ◌⊗◌, ◌⊘◌, size, as_great, is_zero, is_tiny}
 
   infixl 65 ◌⊖◌
   infixl 70 ◌⊗◌
@@ -34,12 +34,12 @@ module _ (F : Arith) where
       (cond (eqb k (n + 1)) (fallback r) (T r (k - (n + 2)))))
 
   -- the row of the greatest size in column c, of row c and the m rows below it; the last of equals
-  unfoldable pub pivotRow : Matrix → ℕ → ℕ → ℕ
-  pivotRow A c zero = c
-  pivotRow A c (suc m) =
-      let best = pivotRow A c m in
+  unfoldable pub pivot_row : Matrix → ℕ → ℕ → ℕ
+  pivot_row A c zero = c
+  pivot_row A c (suc m) =
+      let best = pivot_row A c m in
       let next = c + suc m in
-      cond (asGreat (size (A best c)) (size (A next c))) next best
+      cond (as_great (size (A best c)) (size (A next c))) next best
 
   -- rows c and p change places
   unfoldable pub swapped : Matrix → ℕ → ℕ → Matrix
@@ -59,18 +59,18 @@ module _ (F : Arith) where
   reduced A c r k = cond (eqb r c) (normalized A c k) (cleared (A r c) (A r) (normalized A c) k)
 
   -- column c of n rows: the pivot from the diagonal down; a size below 1e-12 is singular
-  unfoldable pub columnSolved : ℕ → Matrix → ℕ → Elimination Num
-  unfolding pivotRow swapped reduced
-  columnSolved n A c =
-      let p = pivotRow A c (n - (c + 1)) in
-      cond (isTiny (size (A p c))) (singular A) (solved (reduced (swapped A c p) c))
+  unfoldable pub column_solved : ℕ → Matrix → ℕ → Elimination Num
+  unfolding pivot_row swapped reduced
+  column_solved n A c =
+      let p = pivot_row A c (n - (c + 1)) in
+      cond (is_tiny (size (A p c))) (singular A) (solved (reduced (swapped A c p) c))
 
   -- columns 0 to m − 1
-  unfoldable pub columnsSolved : ℕ → Matrix → ℕ → Elimination Num
-  unfolding columnSolved
-  columnsSolved n A zero = solved A
-  columnsSolved n A (suc m) = and_then (columnsSolved n A m) (λ B. columnSolved n B m)
+  unfoldable pub columns_solved : ℕ → Matrix → ℕ → Elimination Num
+  unfolding column_solved
+  columns_solved n A zero = solved A
+  columns_solved n A (suc m) = and_then (columns_solved n A m) (λ B. column_solved n B m)
 
   -- n rows, the first n columns solved
-  abbrev pub gaussJordan : ℕ → Matrix → Elimination Num
-  gaussJordan n A = columnsSolved n A n
+  abbrev pub gauss_jordan : ℕ → Matrix → Elimination Num
+  gauss_jordan n A = columns_solved n A n

@@ -4,7 +4,7 @@ use Rattle.fit_linear.specs.Arithmetic.{Arith}
 use Rattle.fit_linear.specs.Elimination.{Matrix}
 
 module _ (F : Arith) where
-  open F use {Num, 𝟘, 𝟙, neg, ◌⊕◌, ◌⊖◌, ◌⊗◌, ◌⊘◌, size, is_zero, isTiny}
+  open F use {Num, 𝟘, 𝟙, neg, ◌⊕◌, ◌⊖◌, ◌⊗◌, ◌⊘◌, size, is_zero, is_tiny}
 
   infixl 65 ◌⊕◌
   infixl 65 ◌⊖◌
@@ -24,12 +24,12 @@ module _ (F : Arith) where
     pub ⊖-is : (a b : Num) → a ⊖ b ≡ a ⊕ neg b
     pub ⊘-is : (a b : Num) → a ⊘ b ≡ a ⊗ (𝟙 ⊘ b)
     pub zero-known : (a : Num) → is_zero a ≡ true → a ≡ 𝟘
-    pub zero-tiny : isTiny (size 𝟘) ≡ true
+    pub zero-tiny : is_tiny (size 𝟘) ≡ true
 
   -- f 0 + … + f (n − 1)
-  unfoldable pub fieldSum : ℕ → (ℕ → Num) → Num
-  fieldSum zero f = 𝟘
-  fieldSum (suc n) f = fieldSum n f ⊕ f n
+  unfoldable pub field_sum : ℕ → (ℕ → Num) → Num
+  field_sum zero f = 𝟘
+  field_sum (suc n) f = field_sum n f ⊕ f n
 
   -- the identity
   abbrev pub unit : Matrix F
@@ -37,8 +37,8 @@ module _ (F : Arith) where
 
   -- x solves the n equations of a matrix: the first n numbers of a row are its coefficients, number j its right side
   abbrev pub Solves : ℕ → Matrix F → ℕ → (ℕ → Num) → Type 0
-  Solves n A j x = (r : ℕ) → r < n → fieldSum n (λ k. A r k ⊗ x k) ≡ A r j
+  Solves n A j x = (r : ℕ) → r < n → field_sum n (λ k. A r k ⊗ x k) ≡ A r j
 
   -- x = b + Q x: what comes at once, and what comes after a step of Q
   abbrev pub Expected : ℕ → Matrix F → (ℕ → Num) → (ℕ → Num) → Type 0
-  Expected n Q b x = (r : ℕ) → r < n → x r ≡ b r ⊕ fieldSum n (λ k. Q r k ⊗ x k)
+  Expected n Q b x = (r : ℕ) → r < n → x r ≡ b r ⊕ field_sum n (λ k. Q r k ⊗ x k)

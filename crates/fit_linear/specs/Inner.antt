@@ -1,8 +1,8 @@
 -- For the contracts and proofs of inner functions alone: rows and parts of one flat list of floats, what elimination leaves there, and what its loops leave.
 use Rattle.std.specs.Prelude.{ℕ, ◌+◌, ◌*◌, ◌<◌, ◌≤◌, ◌≡◌, List, ◌⊎◌, get_or, Float}
 use Rattle.std.specs.Float.{nan}
-use Rattle.basics.specs.Lists.{cellIndex}
-use Rattle.fit_linear.specs.Elimination.{Elimination, solved, singular, matrixOf, cleared}
+use Rattle.basics.specs.Lists.{cell_index}
+use Rattle.fit_linear.specs.Elimination.{Elimination, solved, singular, matrix_of, cleared}
 use Rattle.fit_linear.specs.declared.Solve.{Solve}
 use Rattle.fit_linear.specs.declared.Solve.TheVariants.{Solved, Singular}
 use Rattle.fit_linear.specs.Arithmetic.{rounded}
@@ -17,7 +17,7 @@ from base l k = float_at l (base + k)
 
 -- row after row, each of w floats
 abbrev pub rows_of : ℕ → List Float → ℕ → ℕ → Float
-rows_of w l r k = float_at l (cellIndex w r k)
+rows_of w l r k = float_at l (cell_index w r k)
 
 -- a place outside n places from base on
 abbrev pub Outside : ℕ → ℕ → ℕ → Type 0
@@ -30,14 +30,14 @@ pub record Becomes (n w : ℕ) (A : ℕ → ℕ → Float) (before after : List 
 
 -- ---- elimination
 
-abbrev pub solveOf : Elimination Float → Solve
-solveOf (solved A) = Solved
-solveOf (singular A) = Singular
+abbrev pub solve_of : Elimination Float → Solve
+solve_of (solved A) = Solved
+solve_of (singular A) = Singular
 
 -- the answer, and its matrix in the n rows of w
 pub record Eliminated (n w : ℕ) (a : Elimination Float) (before : List Float) (answer : Solve) (after : List Float) : Type 0 where
-  pub answers : answer ≡ solveOf a
-  pub becomes : Becomes n w (matrixOf a) before after
+  pub answers : answer ≡ solve_of a
+  pub becomes : Becomes n w (matrix_of a) before after
 
 -- n places from base on hold a vector; every other place is as it was
 pub record Filled (base n : ℕ) (v : ℕ → Float) (before after : List Float) : Type 0 where

@@ -5,7 +5,7 @@ ghost use Rattle.std.specs.Float.{binary64};
 ghost use Rattle.std.specs.Float.Ieee.{sub, mul, div};
 ghost use Rattle.basics.specs.Loan.{given, final};
 ghost use Rattle.fit_linear.specs.Arithmetic.{rounded};
-ghost use Rattle.fit_linear.specs.Elimination.{pivotRow, cleared, columnSolved, gaussJordan};
+ghost use Rattle.fit_linear.specs.Elimination.{pivot_row, cleared, column_solved, gauss_jordan};
 ghost use Rattle.fit_linear.specs.Inner.{from, rows_of, Eliminated, Filled, Swapped, ClearedRows};
 
 use super::Solve;
@@ -13,7 +13,7 @@ use super::Solve;
 // The row of the greatest size in column c, from the diagonal down.
 fn find_pivot(rows: &[f64], n: usize, w: usize, c: usize) -> usize
     requires { (c < n) × (n ≤ w) × (n * w ≤ length rows.now) }
-    ensures { (result < n) × (result ≡ pivotRow rounded (rows_of w (given rows)) c (n - (c + 1))) }
+    ensures { (result < n) × (result ≡ pivot_row rounded (rows_of w (given rows)) c (n - (c + 1))) }
 {
     let mut best = c;
     let mut most = floats::abs(rows[c * w + c]);
@@ -100,7 +100,7 @@ fn clear_rows(rows: &mut [f64], w: usize, c: usize, lo: usize, hi: usize)
 // Solves column c.
 fn reduce_column(rows: &mut [f64], n: usize, w: usize, c: usize) -> Solve
     requires { (c < n) × (n ≤ w) × (n * w ≤ length rows.old) }
-    ensures { Eliminated n w (columnSolved rounded n (rows_of w (given rows)) c) (given rows) result (final rows) }
+    ensures { Eliminated n w (column_solved rounded n (rows_of w (given rows)) c) (given rows) result (final rows) }
 {
     let best = find_pivot(rows, n, w, c);
     if floats::abs(rows[best * w + c]) < 1e-12 {
@@ -118,7 +118,7 @@ fn reduce_column(rows: &mut [f64], n: usize, w: usize, c: usize) -> Solve
 // Reduces the first n columns of n rows of w floats to the identity, in place.
 pub fn gauss_jordan(rows: &mut [f64], n: usize, w: usize) -> Solve
     requires { (n ≤ w) × (n * w ≤ length rows.old) }
-    ensures { Eliminated n w (gaussJordan rounded n (rows_of w (given rows))) (given rows) result (final rows) }
+    ensures { Eliminated n w (gauss_jordan rounded n (rows_of w (given rows))) (given rows) result (final rows) }
 {
     let mut c = 0;
     while c < n {

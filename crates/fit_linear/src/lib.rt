@@ -1,4 +1,6 @@
 // The solver of the fit (document 01, "The fit").
+#![tactic(auto)]
+
 pub mod inner;
 
 // What `gauss_jordan` finds.

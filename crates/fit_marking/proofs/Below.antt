@@ -10,8 +10,8 @@ use native.Mathlib.Omega.{arith}
 use lib.ListN.{length, get_or}
 use Rattle.basics.specs.Lists.{bit, count, any, tab, sum}
 use Rattle.basics.proofs.Tests.{either, fails}
-use Rattle.basics.proofs.Lists.{tab-ext, tab-getD}
-use Rattle.fit_marking.specs.Below.{sum_to, someTo}
+use Rattle.basics.proofs.Lists.{tab-ext, tab-get_d}
+use Rattle.fit_marking.specs.Below.{sum_to, some_to}
 use Rattle.fit_marking.specs.Inner.{count_to}
 
 -- ---- sums
@@ -52,7 +52,7 @@ sum_same n f g e = ap sum (tab-ext n f g e)
 
 sum-all : (l : List ℕ) → sum_to (length l) (λ k. get_or l k 0) ≡ sum l
 unfolding sum_to
-sum-all l = ap sum (tab-getD l (length l) 0 refl)
+sum-all l = ap sum (tab-get_d l (length l) 0 refl)
 
 -- n places of a list from a on
 pub part-below : (l : List ℕ) (a n : ℕ) → a + n ≤ length l → sum_to n (λ k. get_or l (a + k) 0) ≤ sum l
@@ -64,8 +64,8 @@ part-below l a n h =
 
 -- ---- tests
 
-pub some-none : (p : ℕ → Bool) → someTo 0 p ≡ false
-unfolding someTo
+pub some-none : (p : ℕ → Bool) → some_to 0 p ≡ false
+unfolding some_to
 some-none p = refl
 
 any_snoc : (p : ℕ → Bool) (n : ℕ) (f : ℕ → ℕ) → any p (tab (suc n) f) ≡ any p (tab n f) || p (f n)
@@ -73,28 +73,28 @@ any_snoc p zero f = or-false (p (f 0))
 any_snoc p (suc n) f = ap (λ (b : Bool). p (f 0) || b) (any_snoc p n (λ k. f (suc k)))
     ∙ sym (or_assoc (p (f 0)) (any p (tab n (λ k. f (suc k)))) (p (f (suc n))))
 
-pub some-step : (n : ℕ) (p : ℕ → Bool) → someTo (suc n) p ≡ someTo n p || p n
-unfolding someTo
+pub some-step : (n : ℕ) (p : ℕ → Bool) → some_to (suc n) p ≡ some_to n p || p n
+unfolding some_to
 some-step n p = any_snoc p n (λ k. k)
 
-pub some_more : (n : ℕ) (p : ℕ → Bool) → someTo n p ≡ false → p n ≡ false → someTo (n + 1) p ≡ false
+pub some_more : (n : ℕ) (p : ℕ → Bool) → some_to n p ≡ false → p n ≡ false → some_to (n + 1) p ≡ false
 some_more n p a b = rw (add-one, some-step n p, a, b)
 
-pub some_at : (n : ℕ) (p : ℕ → Bool) (k : ℕ) → k < n → p k ≡ true → someTo n p ≡ true
+pub some_at : (n : ℕ) (p : ℕ → Bool) (k : ℕ) → k < n → p k ≡ true → some_to n p ≡ true
 some_at zero p k h t = absurd (omega arith)
 some_at (suc n) p k h t =
     let c : (k ≡ n) ⊎ (k < n) = eq-or-lt_of_le (omega arith) in
-    some-step n p ∙ ⊎_elim (λ e. rw (← e, t) (or-true (someTo k p))) (λ l. rw (some_at n p k l t)) c
+    some-step n p ∙ ⊎_elim (λ e. rw (← e, t) (or-true (some_to k p))) (λ l. rw (some_at n p k l t)) c
 
-pub some-found : (n : ℕ) (p : ℕ → Bool) → someTo n p ≡ true → (k : ℕ) × (k < n) × (p k ≡ true)
+pub some-found : (n : ℕ) (p : ℕ → Bool) → some_to n p ≡ true → (k : ℕ) × (k < n) × (p k ≡ true)
 some-found zero p h = absurd (false≢true (sym (some-none p) ∙ h))
 some-found (suc n) p h =
-    elim (either (someTo n p) (p n) (sym (some-step n p) ∙ h)) [
+    elim (either (some_to n p) (p n) (sym (some-step n p) ∙ h)) [
       | inl a ↦ let w = some-found n p a in (w.0, omega arith, w.2)
       | inr b ↦ (n, omega arith, b)
     ]
 
-pub some-not : (n : ℕ) (p : ℕ → Bool) → someTo n p ≡ false → (k : ℕ) → k < n → p k ≡ false
+pub some-not : (n : ℕ) (p : ℕ → Bool) → some_to n p ≡ false → (k : ℕ) → k < n → p k ≡ false
 some-not n p h k l = fails (p k) (λ t. false≢true (sym h ∙ some_at n p k l t))
 
 -- ---- a loop that looks for a number below n and stops at the first one
@@ -102,7 +102,7 @@ some-not n p h k l = fails (p k) (λ t. false≢true (sym h ∙ some_at n p k l 
 -- none of the first k passes the test
 pub record Searching (n : ℕ) (p : ℕ → Bool) (k : ℕ) : Type 0 where
   pub most : k ≤ n
-  pub none_yet : someTo k p ≡ false
+  pub none_yet : some_to k p ≡ false
 
 pub searching-none : {n : ℕ} {p : ℕ → Bool} → Searching n p 0
 searching-none {n} {p} = record { most = omega arith; none_yet = some-none p }
@@ -111,10 +111,10 @@ module _ {n : ℕ} {p : ℕ → Bool} {k : ℕ} (s : Searching n p k) where
   pub searching-more : k < n → p k ≡ false → Searching n p (k + 1)
   searching-more h e = record { most = omega arith; none_yet = some_more k p s.none_yet e }
 
-  pub searching-found : k < n → p k ≡ true → true ≡ someTo n p
+  pub searching-found : k < n → p k ≡ true → true ≡ some_to n p
   searching-found h e = sym (some_at n p k h e)
 
-  pub searching-all : n ≤ k → false ≡ someTo n p
+  pub searching-all : n ≤ k → false ≡ some_to n p
   searching-all h = let all : k ≡ n = omega (arith, s.most) in sym (rw all at s.none_yet)
 
 -- ---- counts

@@ -5,8 +5,8 @@ use mathlib.Core.List.{List, [], ◌∷◌}
 use native.Mathlib.Omega.{arith}
 use Rattle.basics.specs.Lists.{tab}
 use Rattle.model.specs.declared.StateStatus.TheVariants.{Calibrated, Rare, NoPriceMove}
-use Rattle.fit_marking.specs.Below.{sum_to, someTo}
-use Rattle.fit_marking.specs.Marks.{Cells, cells_of, observations, here, via, Says, reachesIn, mark_of}
+use Rattle.fit_marking.specs.Below.{sum_to, some_to}
+use Rattle.fit_marking.specs.Marks.{Cells, cells_of, observations, here, via, Says, reaches_in, mark_of}
 
 abbrev stay : List ℕ
 stay =
@@ -27,7 +27,7 @@ four = cells_of 4 2 stay moved
 
 -- state 1 has a moved cell, and a stay cell leads from 0 to 1; from state 2 one leads to 3 alone, which is Rare
 pub marks-computed : tab 4 (mark_of four) ≡ Calibrated ∷ Calibrated ∷ NoPriceMove ∷ Rare ∷ []
-unfolding mark_of reachesIn observations sum_to someTo
+unfolding mark_of reaches_in observations sum_to some_to
 marks-computed = refl
 
 -- what its mark says of state 0 is so

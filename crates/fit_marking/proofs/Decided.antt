@@ -10,55 +10,55 @@ use borrow.Author.Tests.{not-true, ltb-true, lt-ltb, leb-true, leb-false, le-leb
 use lib.Dec.{ltb}
 use lib.ListN.{get_or}
 use Rattle.basics.proofs.Tests.{both, either, yes_or_no, fails}
-use Rattle.model.specs.Status.{statusNumber}
+use Rattle.model.specs.Status.{status_number}
 use Rattle.model.specs.declared.StateStatus.{StateStatus}
 use Rattle.model.specs.declared.StateStatus.TheVariants as Status
-use Rattle.fit_marking.specs.Below.{someTo}
+use Rattle.fit_marking.specs.Below.{some_to}
 use Rattle.fit_marking.specs.Inner.{count_to}
-use Rattle.fit_marking.specs.Marks.{Cells, observations, Rare, NotRare, Reaches, here, via, Says, Marked, notRare, reachesIn, mark_of}
+use Rattle.fit_marking.specs.Marks.{Cells, observations, Rare, NotRare, Reaches, here, via, Says, Marked, not_rare, reaches_in, mark_of}
 use Rattle.fit_marking.proofs.Below.{some_at, some-found, some-not, count_less, count_most}
 
 module _ (C : Cells) where
   -- a path whose first step goes on to one of at most k
   abbrev onward : ℕ → ℕ → Bool
-  onward k i = notRare C i && someTo C.states (λ j. ltb 0 (C.stay i j) && reachesIn C k j)
+  onward k i = not_rare C i && some_to C.states (λ j. ltb 0 (C.stay i j) && reaches_in C k j)
 
-  onward-found : (k i : ℕ) → onward k i ≡ true → (j : ℕ) × NotRare C i × (j < C.states) × (0 < C.stay i j) × (reachesIn C k j ≡ true)
+  onward-found : (k i : ℕ) → onward k i ≡ true → (j : ℕ) × NotRare C i × (j < C.states) × (0 < C.stay i j) × (reaches_in C k j ≡ true)
   onward-found k i h =
-      let a = both (notRare C i) (someTo C.states (λ j. ltb 0 (C.stay i j) && reachesIn C k j)) h in
-      let w = some-found C.states (λ j. ltb 0 (C.stay i j) && reachesIn C k j) a.1 in
-      let b = both (ltb 0 (C.stay i w.0)) (reachesIn C k w.0) w.2 in
+      let a = both (not_rare C i) (some_to C.states (λ j. ltb 0 (C.stay i j) && reaches_in C k j)) h in
+      let w = some-found C.states (λ j. ltb 0 (C.stay i j) && reaches_in C k j) a.1 in
+      let b = both (ltb 0 (C.stay i w.0)) (reaches_in C k w.0) w.2 in
       (w.0, leb-true _ _ a.0, w.1, ltb-true _ _ b.0, b.1)
 
-  onward-at : (k i j : ℕ) → NotRare C i → j < C.states → 0 < C.stay i j → reachesIn C k j ≡ true → onward k i ≡ true
+  onward-at : (k i j : ℕ) → NotRare C i → j < C.states → 0 < C.stay i j → reaches_in C k j ≡ true → onward k i ≡ true
   onward-at k i j a l m t =
-      let u : ltb 0 (C.stay i j) && reachesIn C k j ≡ true = rw (lt-ltb _ _ m, t) in
-      rw (le-leb _ _ a, some_at C.states (λ j. ltb 0 (C.stay i j) && reachesIn C k j) j l u)
+      let u : ltb 0 (C.stay i j) && reaches_in C k j ≡ true = rw (lt-ltb _ _ m, t) in
+      rw (le-leb _ _ a, some_at C.states (λ j. ltb 0 (C.stay i j) && reaches_in C k j) j l u)
 
-  grows : (k i : ℕ) → reachesIn C k i ≡ true → reachesIn C (suc k) i ≡ true
-  unfolding reachesIn
+  grows : (k i : ℕ) → reaches_in C k i ≡ true → reaches_in C (suc k) i ≡ true
+  unfolding reaches_in
   grows k i h = rw h
 
-  goes_on : (k i : ℕ) → onward k i ≡ true → reachesIn C (suc k) i ≡ true
-  unfolding reachesIn
-  goes_on k i h = rw h (or-true (reachesIn C k i))
+  goes_on : (k i : ℕ) → onward k i ≡ true → reaches_in C (suc k) i ≡ true
+  unfolding reaches_in
+  goes_on k i h = rw h (or-true (reaches_in C k i))
 
-  last_step : (k i : ℕ) → reachesIn C (suc k) i ≡ true → (reachesIn C k i ≡ true) ⊎ (onward k i ≡ true)
-  unfolding reachesIn
-  last_step k i h = either (reachesIn C k i) (onward k i) h
+  last_step : (k i : ℕ) → reaches_in C (suc k) i ≡ true → (reaches_in C k i ≡ true) ⊎ (onward k i ≡ true)
+  unfolding reaches_in
+  last_step k i h = either (reaches_in C k i) (onward k i) h
 
-  no_steps : (i : ℕ) → reachesIn C 0 i ≡ true → Reaches C i
-  unfolding reachesIn
+  no_steps : (i : ℕ) → reaches_in C 0 i ≡ true → Reaches C i
+  unfolding reaches_in
   no_steps i h =
-      let a = both (notRare C i) (someTo C.states (λ j. ltb 0 (C.moved i j))) h in
+      let a = both (not_rare C i) (some_to C.states (λ j. ltb 0 (C.moved i j))) h in
       let w = some-found C.states (λ j. ltb 0 (C.moved i j)) a.1 in
       here w.0 (leb-true _ _ a.0) w.1 (ltb-true _ _ w.2)
 
-  moves : (i j : ℕ) → NotRare C i → j < C.states → 0 < C.moved i j → reachesIn C 0 i ≡ true
-  unfolding reachesIn
+  moves : (i j : ℕ) → NotRare C i → j < C.states → 0 < C.moved i j → reaches_in C 0 i ≡ true
+  unfolding reaches_in
   moves i j a l m = rw (le-leb _ _ a, some_at C.states (λ j. ltb 0 (C.moved i j)) j l (lt-ltb _ _ m))
 
-  pub path-of : (k i : ℕ) → reachesIn C k i ≡ true → Reaches C i
+  pub path-of : (k i : ℕ) → reaches_in C k i ≡ true → Reaches C i
   path-of zero i h = no_steps i h
   path-of (suc k) i h =
       elim (last_step k i h) [
@@ -68,7 +68,7 @@ module _ (C : Cells) where
 
   -- no state is reached by one step more
   abbrev Still : ℕ → Type 0
-  Still k = (j : ℕ) → j < C.states → reachesIn C (suc k) j ≡ true → reachesIn C k j ≡ true
+  Still k = (j : ℕ) → j < C.states → reaches_in C (suc k) j ≡ true → reaches_in C k j ≡ true
 
   still-on : (k : ℕ) → Still k → Still (suc k)
   still-on k s j l h =
@@ -78,16 +78,16 @@ module _ (C : Cells) where
       ]
 
   abbrev new : ℕ → ℕ → Bool
-  new k j = reachesIn C (suc k) j && not (reachesIn C k j)
+  new k j = reaches_in C (suc k) j && not (reaches_in C k j)
 
-  more-reached : (k : ℕ) → Still k ⊎ (count_to C.states (reachesIn C k) < count_to C.states (reachesIn C (suc k)))
+  more-reached : (k : ℕ) → Still k ⊎ (count_to C.states (reaches_in C k) < count_to C.states (reaches_in C (suc k)))
   more-reached k =
-      elim (yes_or_no (someTo C.states (new k))) [
+      elim (yes_or_no (some_to C.states (new k))) [
         | inl t ↦
             let w = some-found C.states (new k) t in
-            let b = both (reachesIn C (suc k) w.0) (not (reachesIn C k w.0)) w.2 in
-            inr (count_less C.states (reachesIn C k) (reachesIn C (suc k)) w.0 (λ j l g. grows k j g) w.1 (not-true _ b.1) b.0)
-        | inr f ↦ inl (λ j l h. old (reachesIn C (suc k) j) (reachesIn C k j) (some-not C.states (new k) f j l) h)
+            let b = both (reaches_in C (suc k) w.0) (not (reaches_in C k w.0)) w.2 in
+            inr (count_less C.states (reaches_in C k) (reaches_in C (suc k)) w.0 (λ j l g. grows k j g) w.1 (not-true _ b.1) b.0)
+        | inr f ↦ inl (λ j l h. old (reaches_in C (suc k) j) (reaches_in C k j) (some-not C.states (new k) f j l) h)
       ]
     where
       old : (a b : Bool) → a && not b ≡ false → a ≡ true → b ≡ true
@@ -96,7 +96,7 @@ module _ (C : Cells) where
       old false b e h = absurd (false≢true h)
 
   -- each step reaches one state more at least, until no step does
-  still-or : (k : ℕ) → Still k ⊎ (k < count_to C.states (reachesIn C (suc k)))
+  still-or : (k : ℕ) → Still k ⊎ (k < count_to C.states (reaches_in C (suc k)))
   still-or zero = ⊎_elim inl (λ g. inr (omega arith)) (more-reached 0)
   still-or (suc k) =
       elim (still-or k) [
@@ -105,20 +105,20 @@ module _ (C : Cells) where
       ]
 
   still : Still C.states
-  still = ⊎_elim (λ s. s) (λ l. absurd (let m = count_most C.states (reachesIn C (suc C.states)) in omega arith)) (still-or C.states)
+  still = ⊎_elim (λ s. s) (λ l. absurd (let m = count_most C.states (reaches_in C (suc C.states)) in omega arith)) (still-or C.states)
 
-  first : (k i : ℕ) → reachesIn C 0 i ≡ true → reachesIn C k i ≡ true
+  first : (k i : ℕ) → reaches_in C 0 i ≡ true → reaches_in C k i ≡ true
   first zero i h = h
   first (suc k) i h = grows k i (first k i h)
 
-  pub path-in : (i : ℕ) → i < C.states → Reaches C i → reachesIn C C.states i ≡ true
+  pub path-in : (i : ℕ) → i < C.states → Reaches C i → reaches_in C C.states i ≡ true
   path-in i l (here j a g m) = first C.states i (moves i j a g m)
   path-in i l (via j a g m r) = still i l (goes_on C.states i (onward-at C.states i j a g m (path-in j g r)))
 
   -- there is a path from i, or there is none
   pub decided : (i : ℕ) → i < C.states → Reaches C i ⊎ (Reaches C i → ⊥)
   decided i l =
-      elim (yes_or_no (reachesIn C C.states i)) [
+      elim (yes_or_no (reaches_in C C.states i)) [
         | inl t ↦ inl (path-of C.states i t)
         | inr f ↦ inr (λ r. false≢true (sym f ∙ path-in i l r))
       ]
@@ -137,12 +137,12 @@ module _ (C : Cells) where
   unfolding mark_of
   is_none i l h n = λ t. cond (le-leb C.least (observations C i) h t) (cond (none t) Status.Calibrated Status.NoPriceMove) Status.Rare
     where
-      none : reachesIn C C.states i ≡ false
-      none = fails (reachesIn C C.states i) (λ t. n (path-of C.states i t))
+      none : reaches_in C C.states i ≡ false
+      none = fails (reaches_in C C.states i) (λ t. n (path-of C.states i t))
 
   pub mark-says : (i : ℕ) → i < C.states → Says C i (mark_of C i)
   mark-says i l =
-      elim (yes_or_no (notRare C i)) [
+      elim (yes_or_no (not_rare C i)) [
         | inr f ↦ let r = leb-false _ _ f in rw (is-rare i r) r
         | inl t ↦
             let k : NotRare C i = leb-true _ _ t in
@@ -159,5 +159,5 @@ module _ (C : Cells) where
   mark-only i l Status.OutsideQuotes s = absurd s
 
   -- what marking leaves, by the function
-  pub marked-is : (before after : List ℕ) → Marked C before after → (i : ℕ) → i < C.states → get_or after i 0 ≡ statusNumber (mark_of C i)
+  pub marked-is : (before after : List ℕ) → Marked C before after → (i : ℕ) → i < C.states → get_or after i 0 ≡ status_number (mark_of C i)
   marked-is before after M i l = let w = M.marks i l in rw (mark-only i l w.0 w.1) w.2

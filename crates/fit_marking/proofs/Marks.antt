@@ -10,12 +10,12 @@ use borrow.Author.Tests.{lt-ltb, ltb-true, ltb-false, eqb-true, eq-eqb}
 use lib.Dec.{ltb}
 use lib.ListN.{length, get_or}
 use Rattle.basics.proofs.Tests.{both, yes_or_no}
-use Rattle.model.specs.Status.{statusNumber}
+use Rattle.model.specs.Status.{status_number}
 use Rattle.model.specs.declared.StateStatus.{StateStatus}
 use Rattle.model.specs.declared.StateStatus.TheVariants as Status
 use Rattle.basics.specs.Lists.{cell_at}
 use Rattle.fit_marking.specs.Marks.{Cells, cells_of, observations, Rare, NotRare, Reaches, here, via, Says, Marked}
-use Rattle.fit_marking.specs.Inner.{hasPositive, leadsTo, firstMark, FirstMarks, Freed, Led, none, more, Closed}
+use Rattle.fit_marking.specs.Inner.{has_positive, leads_to, first_mark, FirstMarks, Freed, Led, none, more, Closed}
 use Rattle.fit_marking.proofs.Below.{some-found, some-not}
 use Rattle.fit_marking.proofs.Turns.{freed-here, freed-other, led-length, led-elsewhere}
 
@@ -27,17 +27,17 @@ module _ (N least : ℕ) (stay moved : List ℕ) where
   data So (m : List ℕ) (i : ℕ) : Type 0 where
     so-rare : Rare C i → get_or m i 0 ≡ 1 → So m i
     so-path : NotRare C i → get_or m i 0 ≡ 0 → Reaches C i → So m i
-    so-none : NotRare C i → get_or m i 0 ≡ 2 → hasPositive N moved i ≡ false → So m i
+    so-none : NotRare C i → get_or m i 0 ≡ 2 → has_positive N moved i ≡ false → So m i
 
   abbrev AllSo : List ℕ → Type 0
   AllSo m = (i : ℕ) → i < N → So m i
 
-  so-first : (m : List ℕ) (i : ℕ) → get_or m i 0 ≡ firstMark N least stay moved i → So m i
+  so-first : (m : List ℕ) (i : ℕ) → get_or m i 0 ≡ first_mark N least stay moved i → So m i
   so-first m i e =
       elim (yes_or_no (ltb (observations C i) least)) [
         | inl t ↦ so-rare (ltb-true _ _ t) (e ∙ rw t)
         | inr f ↦
-            elim (yes_or_no (hasPositive N moved i)) [
+            elim (yes_or_no (has_positive N moved i)) [
               | inl t ↦
                   let w = some-found N (λ j. ltb 0 (cell_at N moved i j)) t in
                   so-path (ltb-false _ _ f) (e ∙ rw (f, t)) (here w.0 (ltb-false _ _ f) w.1 (ltb-true _ _ w.2))
@@ -66,7 +66,7 @@ module _ (N least : ℕ) (stay moved : List ℕ) where
       go : Dec (i ≡ x) → So m' i
       go (no d) = so-same m m' i (freed-other N stay m m' x h r w i d) (s i l)
       go (yes e) =
-          let f = some-found N (leadsTo N stay m x) w.leads in
+          let f = some-found N (leads_to N stay m x) w.leads in
           let b = both _ _ f.2 in
           let k = waits m x w.was (s x h) in
           let to = reached m f.0 (eqb-true _ _ b.1) (s f.0 f.1) in
@@ -94,8 +94,8 @@ module _ (N least : ℕ) (stay moved : List ℕ) where
       go (so-rare b e) k = absurd (omega arith)
       go (so-path b e r) k = e
       go (so-none b e r) k =
-          let f = some-not N (leadsTo N stay m i) (c i l e) j g in
-          let t : leadsTo N stay m i j ≡ true = rw (lt-ltb 0 (cell_at N stay i j) p, eq-eqb _ _ k) in
+          let f = some-not N (leads_to N stay m i) (c i l e) j g in
+          let t : leads_to N stay m i j ≡ true = rw (lt-ltb 0 (cell_at N stay i j) p, eq-eqb _ _ k) in
           absurd (false≢true (sym f ∙ t))
 
   pub all-marked : (before l m : List ℕ) → N ≤ length l → FirstMarks N least stay moved before l → Led N stay l m → Closed N stay m → Marked C before m
@@ -107,7 +107,7 @@ module _ (N least : ℕ) (stay moved : List ℕ) where
       s : AllSo m
       s = so-led l m r q (λ i h. so-first l i (f.marks i h))
 
-      go : (i : ℕ) → i < N → So m i → (k : StateStatus) × Says C i k × (get_or m i 0 ≡ statusNumber k)
+      go : (i : ℕ) → i < N → So m i → (k : StateStatus) × Says C i k × (get_or m i 0 ≡ status_number k)
       go i h (so-rare a e) = (Status.Rare, a, e)
       go i h (so-path a e p) = (Status.Calibrated, (a, p), e)
       go i h (so-none a e n) = (Status.NoPriceMove, (a, λ p. let z = so-closed m c s i h p in omega arith), e)

@@ -12,7 +12,7 @@ use lib.Dec.{eqb}
 use lib.ListN.{length, get_or, length-set}
 use lib.Seq.{get_or-set_same, get_or-set_other}
 use Rattle.basics.proofs.Tests.{yes_or_no}
-use Rattle.fit_marking.specs.Inner.{leadsOut, waiting, Freed, Left, Led, none, more, Turned}
+use Rattle.fit_marking.specs.Inner.{leads_out, waiting, Freed, Left, Led, none, more, Turned}
 use Rattle.fit_marking.proofs.Below.{count_less}
 
 -- ---- one state is freed
@@ -45,7 +45,7 @@ pub record Pass (N : ℕ) (stay before m : List ℕ) (freed : Bool) (x : ℕ) : 
   pub led : Led N stay before m
   pub sized : length m ≡ length before
   pub fewer : freed ≡ true → waiting N m < waiting N before
-  pub kept : freed ≡ false → (m ≡ before) × ((y : ℕ) → y < x → get_or m y 0 ≡ 2 → leadsOut N stay m y ≡ false)
+  pub kept : freed ≡ false → (m ≡ before) × ((y : ℕ) → y < x → get_or m y 0 ≡ 2 → leads_out N stay m y ≡ false)
 
 pub pass-start : (N : ℕ) (stay l : List ℕ) → Pass N stay l l false 0
 pass-start N stay l = record {
@@ -72,7 +72,7 @@ module _ (N : ℕ) (stay l m m' : List ℕ) (freed : Bool) (x : ℕ) (p : Pass N
     led = p.led;
     sized = p.sized;
     fewer = p.fewer;
-    kept = λ t. ((p.kept t).0, below_more (λ y. get_or m y 0 ≡ 2 → leadsOut N stay m y ≡ false) x (p.kept t).1 w.leads-not);
+    kept = λ t. ((p.kept t).0, below_more (λ y. get_or m y 0 ≡ 2 → leads_out N stay m y ≡ false) x (p.kept t).1 w.leads-not);
   })
 
 pub pass-end : (N : ℕ) (stay l m : List ℕ) (freed : Bool) (x : ℕ) → Pass N stay l m freed x → N ≤ x → Turned N stay l m freed

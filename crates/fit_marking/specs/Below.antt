@@ -7,5 +7,5 @@ unfoldable pub sum_to : ℕ → (ℕ → ℕ) → ℕ
 sum_to n f = sum (tab n f)
 
 -- whether a number below n passes the test
-unfoldable pub someTo : ℕ → (ℕ → Bool) → Bool
-someTo n p = any p (tab n (λ k. k))
+unfoldable pub some_to : ℕ → (ℕ → Bool) → Bool
+some_to n p = any p (tab n (λ k. k))

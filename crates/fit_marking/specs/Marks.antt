@@ -1,11 +1,11 @@
 -- Which states the fit uses: document 01, "The fit". Generic in the number of states.
 use Rattle.std.specs.Prelude.{ℕ, zero, suc, ◌+◌, ◌*◌, ◌<◌, ◌≤◌, ◌≡◌, Bool, ◌&&◌, ◌||◌, cond, List, ltb, leb, length, get_or}
 use Rattle.basics.specs.Lists.{sum, cell_at}
-use Rattle.basics.specs.Domain.{counterLimit}
-use Rattle.model.specs.Status.{statusNumber}
+use Rattle.basics.specs.Domain.{counter_limit}
+use Rattle.model.specs.Status.{status_number}
 use Rattle.model.specs.declared.StateStatus.{StateStatus}
 use Rattle.model.specs.declared.StateStatus.TheVariants as Status
-use Rattle.fit_marking.specs.Below.{sum_to, someTo}
+use Rattle.fit_marking.specs.Below.{sum_to, some_to}
 
 -- the cells of stay and moved by row and column, and the least observations
 pub record Cells : Type 0 where
@@ -21,7 +21,7 @@ cells_of N least stay moved = record { states = N; least = least; stay = cell_at
 pub record Fitting (N : ℕ) (stay moved : List ℕ) : Type 0 where
   pub stay-cells : length stay ≡ N * N
   pub moved-cells : length moved ≡ N * N
-  pub cells-sum : sum stay + sum moved ≤ 2 * counterLimit
+  pub cells-sum : sum stay + sum moved ≤ 2 * counter_limit
 
 -- a row's stay plus moved
 unfoldable pub observations : Cells → ℕ → ℕ
@@ -47,20 +47,20 @@ Says C i Status.OutsideQuotes = ⊥
 
 -- each state's place holds the number of its mark; every other place is as it was
 pub record Marked (C : Cells) (before after : List ℕ) : Type 0 where
-  pub marks : (i : ℕ) → i < C.states → (m : StateStatus) × Says C i m × (get_or after i 0 ≡ statusNumber m)
+  pub marks : (i : ℕ) → i < C.states → (m : StateStatus) × Says C i m × (get_or after i 0 ≡ status_number m)
   pub elsewhere : (i : ℕ) → C.states ≤ i → get_or after i 0 ≡ get_or before i 0
 
 -- ---- the mark as a function; proofs/Decided.antt proves that it says what is so
 
-abbrev pub notRare : Cells → ℕ → Bool
-notRare C i = leb C.least (observations C i)
+abbrev pub not_rare : Cells → ℕ → Bool
+not_rare C i = leb C.least (observations C i)
 
 -- whether there is a path of at most k steps
-unfoldable pub reachesIn : Cells → ℕ → ℕ → Bool
-reachesIn C zero i = notRare C i && someTo C.states (λ j. ltb 0 (C.moved i j))
-reachesIn C (suc k) i =
-    reachesIn C k i || (notRare C i && someTo C.states (λ j. ltb 0 (C.stay i j) && reachesIn C k j))
+unfoldable pub reaches_in : Cells → ℕ → ℕ → Bool
+reaches_in C zero i = not_rare C i && some_to C.states (λ j. ltb 0 (C.moved i j))
+reaches_in C (suc k) i =
+    reaches_in C k i || (not_rare C i && some_to C.states (λ j. ltb 0 (C.stay i j) && reaches_in C k j))
 
 -- no path needs more steps than there are states
 unfoldable pub mark_of : Cells → ℕ → StateStatus
-mark_of C i = cond (notRare C i) (cond (reachesIn C C.states i) Status.Calibrated Status.NoPriceMove) Status.Rare
+mark_of C i = cond (not_rare C i) (cond (reaches_in C C.states i) Status.Calibrated Status.NoPriceMove) Status.Rare

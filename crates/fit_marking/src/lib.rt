@@ -1,16 +1,18 @@
 // Which states the fit uses (document 01, "The fit"). Inner functions: for the crates above, not for users. Where one has a `requires`, each caller proves it.
 // Marks are numbers of `StateStatus`: 0 Calibrated, 1 Rare, 2 NoPriceMove. While paths are looked for, 2 is the mark of a state from which none is found yet.
+#![tactic(auto)]
+
 ghost use Rattle.std.specs.Prelude.{◌≡◌, true, false, ◌+◌, ◌*◌, ◌<◌, ◌≤◌, length};
 ghost use Rattle.basics.specs.Loan.{given, final};
 ghost use Rattle.fit_marking.specs.Below.{sum_to};
 ghost use Rattle.basics.specs.Lists.{cell_at};
-ghost use Rattle.basics.specs.Domain.{counterLimit};
+ghost use Rattle.basics.specs.Domain.{counter_limit};
 ghost use Rattle.fit_marking.specs.Marks.{cells_of, Fitting, observations, Marked};
-ghost use Rattle.fit_marking.specs.Inner.{hasPositive, leadsOut, firstMark, FirstMarks, Freed, Left, Turned};
+ghost use Rattle.fit_marking.specs.Inner.{has_positive, leads_out, first_mark, FirstMarks, Freed, Left, Turned};
 
 // The sum of row x of a table of n columns.
 fn row_sum(table: &[u64], n: usize, x: usize) -> u64
-    requires { (x * n + n ≤ length table.now) × (sum_to n (cell_at n table.now x) ≤ 2 * counterLimit) }
+    requires { (x * n + n ≤ length table.now) × (sum_to n (cell_at n table.now x) ≤ 2 * counter_limit) }
     ensures { result ≡ sum_to n (cell_at n (given table) x) }
 {
     let start = x * n;
@@ -34,7 +36,7 @@ pub fn observations_of(stay: &[u64], moved: &[u64], n: usize, x: usize) -> u64
 // Whether a cell of row x is positive.
 fn has_positive(table: &[u64], n: usize, x: usize) -> bool
     requires { x * n + n ≤ length table.now }
-    ensures { result ≡ hasPositive n (given table) x }
+    ensures { result ≡ has_positive n (given table) x }
 {
     let start = x * n;
     let mut j: usize = 0;
@@ -50,7 +52,7 @@ fn has_positive(table: &[u64], n: usize, x: usize) -> bool
 // Whether a positive stay cell leads from x to a state with mark 0.
 fn leads_out(stay: &[u64], marks: &[u64], n: usize, x: usize) -> bool
     requires { (x * n + n ≤ length stay.now) × (n ≤ length marks.now) }
-    ensures { result ≡ leadsOut n (given stay) (given marks) x }
+    ensures { result ≡ leads_out n (given stay) (given marks) x }
 {
     let start = x * n;
     let mut j: usize = 0;
@@ -66,7 +68,7 @@ fn leads_out(stay: &[u64], marks: &[u64], n: usize, x: usize) -> bool
 // The mark of x by its own rows.
 fn first_mark(stay: &[u64], moved: &[u64], n: usize, least: u64, x: usize) -> u64
     requires { Fitting n stay.now moved.now × (x < n) }
-    ensures { result ≡ firstMark n least (given stay) (given moved) x }
+    ensures { result ≡ first_mark n least (given stay) (given moved) x }
 {
     if observations_of(stay, moved, n, x) < least {
         return 1;

@@ -2,19 +2,19 @@
 use Rattle.std.specs.Prelude.{ℕ, Bool, ◌||◌, ltb}
 
 -- the defaults, which are document 01's numbers
-abbrev pub defaultSeriesRounds : ℕ
-defaultSeriesRounds = 10000
+abbrev pub default_series_rounds : ℕ
+default_series_rounds = 10000
 
-abbrev pub defaultFallbackRounds : ℕ
-defaultFallbackRounds = 10
+abbrev pub default_fallback_rounds : ℕ
+default_fallback_rounds = 10
 
 -- the most that are accepted
-abbrev pub mostSeriesRounds : ℕ
-mostSeriesRounds = 10000
+abbrev pub most_series_rounds : ℕ
+most_series_rounds = 10000
 
-abbrev pub mostFallbackRounds : ℕ
-mostFallbackRounds = 100
+abbrev pub most_fallback_rounds : ℕ
+most_fallback_rounds = 100
 
 -- outside of the ranges: series rounds 1 to 10,000, fallback rounds 0 to 100
-abbrev pub wrongRounds : ℕ → ℕ → Bool
-wrongRounds series fallback = ltb series 1 || ltb mostSeriesRounds series || ltb mostFallbackRounds fallback
+abbrev pub wrong_rounds : ℕ → ℕ → Bool
+wrong_rounds series fallback = ltb series 1 || ltb most_series_rounds series || ltb most_fallback_rounds fallback

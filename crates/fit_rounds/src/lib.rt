@@ -1,6 +1,8 @@
 // The rounds of a fit (document 02, Q-10): their defaults, and the ranges that they are judged by.
+#![tactic(auto)]
+
 ghost use Rattle.std.specs.Prelude.{◌≡◌};
-ghost use Rattle.fit_rounds.specs.Rounds.{wrongRounds};
+ghost use Rattle.fit_rounds.specs.Rounds.{wrong_rounds};
 
 // How many rounds a fit makes. Any words may stand in it; the fit judges them.
 #[derive(Drop)]
@@ -24,7 +26,7 @@ impl Rounds {
 
     // Whether a number is outside of its range. For the crates above, not for users.
     pub fn are_wrong(self) -> bool
-        ensures { result ≡ wrongRounds self.series self.fallback }
+        ensures { result ≡ wrong_rounds self.series self.fallback }
     {
         (self.series < 1)
             | (Rounds::SERIES_ROUNDS_LIMIT < self.series)

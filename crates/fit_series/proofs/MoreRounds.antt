@@ -5,18 +5,18 @@ use mathlib.Core.Bool.{Bool, true, false, cond, true≢false}
 use native.Mathlib.Omega.{arith}
 use Rattle.basics.proofs.Tests.{zero-not-one}
 use Rattle.fit_linear.specs.Arithmetic.{Arith}
-use Rattle.fit_series.specs.Series.{Series, converged, notConverged, Vector, times, plus, largest, summed, RoundsEnded}
+use Rattle.fit_series.specs.Series.{Series, converged, not_converged, Vector, times, plus, largest, summed, RoundsEnded}
 
 module _ (F : Arith) (n : ℕ) (B : ℕ → Vector F) where
-  open F use {Num, isInfinite, isTiny}
+  open F use {Num, is_infinite, is_tiny}
 
   -- where no round is left the term handed on is not infinite: an infinite one was judged in a round of the run
-  more-from : (r r' : ℕ) (sum term : Vector F) → r ≤ r' → (r ≡ 0 → isInfinite (largest F n term) ≡ false) → RoundsEnded F n (summed F n B r sum term)
+  more-from : (r r' : ℕ) (sum term : Vector F) → r ≤ r' → (r ≡ 0 → is_infinite (largest F n term) ≡ false) → RoundsEnded F n (summed F n B r sum term)
       → summed F n B r' sum term ≡ summed F n B r sum term
   unfolding summed
   more-from zero r' sum term l k e = absurd (true≢false (sym e ∙ k refl))
   more-from (suc r) zero sum term l k e = absurd (omega arith)
-  more-from (suc r) (suc r') sum term l k e = go (isInfinite most) refl (isTiny most) (more-from r r' total next (omega arith)) e
+  more-from (suc r) (suc r') sum term l k e = go (is_infinite most) refl (is_tiny most) (more-from r r' total next (omega arith)) e
     where
       next : Vector F
       next = times F n B term
@@ -29,10 +29,10 @@ module _ (F : Arith) (n : ℕ) (B : ℕ → Vector F) where
 
       -- a round's two tests, and the rounds after it
       round : Bool → Bool → Series Num → Series Num
-      round p q rest = cond p (notConverged total next) (cond q (converged total next) rest)
+      round p q rest = cond p (not_converged total next) (cond q (converged total next) rest)
 
-      go : (p : Bool) → isInfinite most ≡ p → (q : Bool)
-          → ((r ≡ 0 → isInfinite most ≡ false) → RoundsEnded F n (summed F n B r total next) → summed F n B r' total next ≡ summed F n B r total next)
+      go : (p : Bool) → is_infinite most ≡ p → (q : Bool)
+          → ((r ≡ 0 → is_infinite most ≡ false) → RoundsEnded F n (summed F n B r total next) → summed F n B r' total next ≡ summed F n B r total next)
           → RoundsEnded F n (round p q (summed F n B r total next)) → round p q (summed F n B r' total next) ≡ round p q (summed F n B r total next)
       go true h q later d = refl
       go false h true later d = refl

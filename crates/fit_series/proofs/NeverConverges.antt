@@ -3,15 +3,15 @@ use Prim.Native.Nat.{ℕ, zero, suc}
 use mathlib.Core.Path.{◌≡◌, refl, ◌∙◌}
 use mathlib.Core.Bool.{false}
 use Rattle.fit_linear.specs.Arithmetic.{Arith}
-use Rattle.fit_series.specs.Series.{notConverged, seriesSum, seriesTerm, Vector, times, plus, largest, summed}
+use Rattle.fit_series.specs.Series.{not_converged, series_sum, series_term, Vector, times, plus, largest, summed}
 use Rattle.fit_series.proofs.Vectors.{SameVector, dot-same, largest-same}
 
 module _ (F : Arith) (n : ℕ) (B : ℕ → Vector F) (v : Vector F) (back : SameVector n (times F n B v) v) where
-  open F use {isInfinite, isTiny}
+  open F use {is_infinite, is_tiny}
 
-  pub never-converges : isInfinite (largest F n v) ≡ false → isTiny (largest F n v) ≡ false
+  pub never-converges : is_infinite (largest F n v) ≡ false → is_tiny (largest F n v) ≡ false
       → (rounds : ℕ) (sum term : Vector F) → SameVector n term v
-      → summed F n B rounds sum term ≡ notConverged (seriesSum (summed F n B rounds sum term)) (seriesTerm (summed F n B rounds sum term))
+      → summed F n B rounds sum term ≡ not_converged (series_sum (summed F n B rounds sum term)) (series_term (summed F n B rounds sum term))
   unfolding summed
   never-converges i t zero sum term h = refl
   never-converges i t (suc rounds) sum term h =

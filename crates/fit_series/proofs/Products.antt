@@ -10,19 +10,19 @@ use Rattle.basics.proofs.Tests.{row_in}
 use Rattle.fit_linear.specs.Arithmetic.{rounded}
 use Rattle.fit_series.specs.Series.{dot, times}
 use Rattle.fit_linear.specs.Inner.{float_at, from}
-use Rattle.fit_series.specs.Inner.{width, next_at, solvedB, FourDots, ProductTo}
+use Rattle.fit_series.specs.Inner.{width, next_at, solved_b, FourDots, ProductTo}
 use Rattle.fit_series.specs.declared.inner.Four.{Four}
 use Rattle.fit_linear.proofs.Parts.{filled_more, filled-four, Filling}
 use Rattle.fit_series.proofs.Vectors.{dot-same}
 
 -- next, while the numbers of B times the vector from v on are written into it, of which r stand there
 abbrev pub Multiplying : ℕ → ℕ → List Float → ℕ → List Float → Type 0
-Multiplying n v before r after = Filling (next_at n) n (times rounded n (solvedB n before) (from v before)) before r after
+Multiplying n v before r after = Filling (next_at n) n (times rounded n (solved_b n before) (from v before)) before r after
 
 module _ (n v : ℕ) {r : ℕ} {l m : List Float} (before : v + n ≤ next_at n) where
   -- a row of B at its place, and the vector: what is before next is as it was
   row-dot : ProductTo n v r l m → (q i : ℕ) → q < n → i ≡ q * width n + (n + 2)
-      → dot rounded n (from i m) (from v m) ≡ times rounded n (solvedB n l) (from v l) q
+      → dot rounded n (from i m) (from v m) ≡ times rounded n (solved_b n l) (from v l) q
   row-dot p q i h e =
       rw e
       (dot-same rounded n _ _ _ _

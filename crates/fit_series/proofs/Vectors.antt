@@ -5,7 +5,7 @@ use mathlib.Core.Path.{◌≡◌, refl, sym, ap, ◌∙◌}
 use mathlib.Core.Bool.{Bool, true, false, cond}
 use native.Mathlib.Omega.{arith}
 use Rattle.fit_linear.specs.Arithmetic.{Arith}
-use Rattle.fit_series.specs.Series.{Series, converged, notConverged, Vector, dot, times, plus, largest, summed, shareAfter}
+use Rattle.fit_series.specs.Series.{Series, converged, not_converged, Vector, dot, times, plus, largest, summed, share_after}
 
 -- the first n numbers are the same
 abbrev pub SameVector : {Num : Type 0} → ℕ → (ℕ → Num) → (ℕ → Num) → Type 0
@@ -13,12 +13,12 @@ SameVector n u v = (k : ℕ) → k < n → u k ≡ v k
 
 abbrev pub SameSeries : {Num : Type 0} → ℕ → Series Num → Series Num → Type 0
 SameSeries n (converged s t) (converged s' t') = SameVector n s s' × SameVector n t t'
-SameSeries n (converged s t) (notConverged s' t') = ⊥
-SameSeries n (notConverged s t) (converged s' t') = ⊥
-SameSeries n (notConverged s t) (notConverged s' t') = SameVector n s s' × SameVector n t t'
+SameSeries n (converged s t) (not_converged s' t') = ⊥
+SameSeries n (not_converged s t) (converged s' t') = ⊥
+SameSeries n (not_converged s t) (not_converged s' t') = SameVector n s s' × SameVector n t t'
 
 module _ (F : Arith) where
-  open F use {Num, ◌⊕◌, ◌⊗◌, size, max, isInfinite, isTiny}
+  open F use {Num, ◌⊕◌, ◌⊗◌, size, max, is_infinite, is_tiny}
 
   infixl 65 ◌⊕◌
   infixl 70 ◌⊗◌
@@ -57,7 +57,7 @@ module _ (F : Arith) where
     series-same zero s t s' t' a b = (a, b)
     series-same (suc left) s t s' t' a b =
         rw (largest-same n (times F n B t) (times F n B' t') next)
-        (go (isInfinite most) (isTiny most)
+        (go (is_infinite most) (is_tiny most)
         (series-same left (plus F s (times F n B t)) (times F n B t) (plus F s' (times F n B' t')) (times F n B' t') total next))
       where
         next : SameVector n (times F n B t) (times F n B' t')
@@ -72,15 +72,15 @@ module _ (F : Arith) where
         go : (p q : Bool)
             → SameSeries n (summed F n B left (plus F s (times F n B t)) (times F n B t)) (summed F n B' left (plus F s' (times F n B' t')) (times F n B' t'))
             → SameSeries n
-            (cond p (notConverged (plus F s (times F n B t)) (times F n B t))
+            (cond p (not_converged (plus F s (times F n B t)) (times F n B t))
             (cond q (converged (plus F s (times F n B t)) (times F n B t)) (summed F n B left (plus F s (times F n B t)) (times F n B t))))
-            (cond p (notConverged (plus F s' (times F n B' t')) (times F n B' t'))
+            (cond p (not_converged (plus F s' (times F n B' t')) (times F n B' t'))
             (cond q (converged (plus F s' (times F n B' t')) (times F n B' t')) (summed F n B' left (plus F s' (times F n B' t')) (times F n B' t'))))
         go true q rest = (total, next)
         go false true rest = (total, next)
         go false false rest = rest
 
-    pub share-same : (f f' : Vector F) → SameVector n f f' → (rounds : ℕ) → SameVector n (shareAfter F n B f rounds) (shareAfter F n B' f' rounds)
-    unfolding shareAfter
+    pub share-same : (f f' : Vector F) → SameVector n f f' → (rounds : ℕ) → SameVector n (share_after F n B f rounds) (share_after F n B' f' rounds)
+    unfolding share_after
     share-same f f' a zero = a
     share-same f f' a (suc rounds) = plus-same f _ f' _ a (times-same _ _ (share-same f f' a rounds))

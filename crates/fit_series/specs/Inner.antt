@@ -3,7 +3,7 @@
 use Rattle.std.specs.Prelude.{ℕ, ◌+◌, ◌-◌, ◌*◌, ◌<◌, ◌≤◌, ◌≡◌, cond, List, eqb, length, Float}
 use Rattle.fit_linear.specs.Arithmetic.{rounded}
 use Rattle.fit_linear.specs.Inner.{float_at, from, rows_of, Outside, Filled}
-use Rattle.fit_series.specs.Series.{Series, converged, notConverged, seriesSum, seriesTerm, times, shareAfter, dot, plus, largest}
+use Rattle.fit_series.specs.Series.{Series, converged, not_converged, series_sum, series_term, times, share_after, dot, plus, largest}
 use Rattle.fit_series.specs.declared.Sum.{Sum}
 use Rattle.fit_series.specs.declared.Sum.TheVariants.{Converged, NotConverged}
 use Rattle.fit_series.specs.declared.inner.Four.{Four}
@@ -16,24 +16,24 @@ width n = 2 * n + 2
 abbrev pub sum_at : ℕ → ℕ
 sum_at n = n * width n
 
-abbrev pub shareAt : ℕ → ℕ
-shareAt n = n * width n + n
+abbrev pub share_at : ℕ → ℕ
+share_at n = n * width n + n
 
-abbrev pub termAt : ℕ → ℕ
-termAt n = n * width n + 2 * n
+abbrev pub term_at : ℕ → ℕ
+term_at n = n * width n + 2 * n
 
 abbrev pub next_at : ℕ → ℕ
 next_at n = n * width n + 3 * n
 
 -- the columns after solving: G1, F, B
-abbrev pub solvedG1 : ℕ → List Float → ℕ → Float
-solvedG1 n l i = rows_of (width n) l i n
+abbrev pub solved_g1 : ℕ → List Float → ℕ → Float
+solved_g1 n l i = rows_of (width n) l i n
 
-abbrev pub solvedF : ℕ → List Float → ℕ → Float
-solvedF n l i = rows_of (width n) l i (n + 1)
+abbrev pub solved_f : ℕ → List Float → ℕ → Float
+solved_f n l i = rows_of (width n) l i (n + 1)
 
-abbrev pub solvedB : ℕ → List Float → ℕ → ℕ → Float
-solvedB n l i j = rows_of (width n) l i (n + 2 + j)
+abbrev pub solved_b : ℕ → List Float → ℕ → ℕ → Float
+solved_b n l i j = rows_of (width n) l i (n + 2 + j)
 
 -- what is asked of lent scratch
 pub record Scratch (n : ℕ) (l : List Float) : Type 0 where
@@ -42,29 +42,29 @@ pub record Scratch (n : ℕ) (l : List Float) : Type 0 where
 
 -- ---- the series
 
-abbrev pub sumAnswer : Series Float → Sum
-sumAnswer (converged sum term) = Converged
-sumAnswer (notConverged sum term) = NotConverged
+abbrev pub sum_answer : Series Float → Sum
+sum_answer (converged sum term) = Converged
+sum_answer (not_converged sum term) = NotConverged
 
 -- the answer; sum, term and next, which is the last term where a round was made; every other place as it was
 pub record Summed (n rounds : ℕ) (s : Series Float) (before : List Float) (answer : Sum) (after : List Float) : Type 0 where
-  pub answers : answer ≡ sumAnswer s
-  pub sums : (k : ℕ) → k < n → from (sum_at n) after k ≡ seriesSum s k
-  pub terms : (k : ℕ) → k < n → from (termAt n) after k ≡ seriesTerm s k
-  pub nexts : (k : ℕ) → k < n → from (next_at n) after k ≡ cond (eqb rounds 0) (from (next_at n) before k) (seriesTerm s k)
-  pub elsewhere : (i : ℕ) → Outside (sum_at n) n i → Outside (termAt n) (2 * n) i → float_at after i ≡ float_at before i
+  pub answers : answer ≡ sum_answer s
+  pub sums : (k : ℕ) → k < n → from (sum_at n) after k ≡ series_sum s k
+  pub terms : (k : ℕ) → k < n → from (term_at n) after k ≡ series_term s k
+  pub nexts : (k : ℕ) → k < n → from (next_at n) after k ≡ cond (eqb rounds 0) (from (next_at n) before k) (series_term s k)
+  pub elsewhere : (i : ℕ) → Outside (sum_at n) n i → Outside (term_at n) (2 * n) i → float_at after i ≡ float_at before i
 
 -- ---- the share
 
 -- B × share of the last of so many rounds
-abbrev pub lastProduct : ℕ → (ℕ → ℕ → Float) → (ℕ → Float) → ℕ → ℕ → Float
-lastProduct n B F rounds = times rounded n B (shareAfter rounded n B F (rounds - 1))
+abbrev pub last_product : ℕ → (ℕ → ℕ → Float) → (ℕ → Float) → ℕ → ℕ → Float
+last_product n B F rounds = times rounded n B (share_after rounded n B F (rounds - 1))
 
 -- share; next, which is the last product where a round was made; every other place as it was
 pub record Shared (n rounds : ℕ) (share product : ℕ → Float) (before after : List Float) : Type 0 where
-  pub shares : (k : ℕ) → k < n → from (shareAt n) after k ≡ share k
+  pub shares : (k : ℕ) → k < n → from (share_at n) after k ≡ share k
   pub nexts : (k : ℕ) → k < n → from (next_at n) after k ≡ cond (eqb rounds 0) (from (next_at n) before k) (product k)
-  pub elsewhere : (i : ℕ) → Outside (shareAt n) n i → Outside (next_at n) n i → float_at after i ≡ float_at before i
+  pub elsewhere : (i : ℕ) → Outside (share_at n) n i → Outside (next_at n) n i → float_at after i ≡ float_at before i
 
 -- the dot products of four rows, w apart from i on, with the vector from j on
 pub record FourDots (i w j n : ℕ) (l : List Float) (r : Four) : Type 0 where
@@ -75,7 +75,7 @@ pub record FourDots (i w j n : ℕ) (l : List Float) (r : Four) : Type 0 where
 
 -- the first m numbers of B times the vector from v on stand in next
 abbrev pub ProductTo : ℕ → ℕ → ℕ → List Float → List Float → Type 0
-ProductTo n v m before after = Filled (next_at n) m (times rounded n (solvedB n before) (from v before)) before after
+ProductTo n v m before after = Filled (next_at n) m (times rounded n (solved_b n before) (from v before)) before after
 
 -- column c of n rows of w can be read while n places from `to` on are written: it lies in the list, and no place of it is written before it is read
 pub record Column (n w c to : ℕ) (l : List Float) : Type 0 where
@@ -85,8 +85,8 @@ pub record Column (n w c to : ℕ) (l : List Float) : Type 0 where
 
 -- one round: next = B × term, term = next, added on, and the largest size of the term
 pub record TermAdded (n : ℕ) (before : List Float) (most : Float) (after : List Float) : Type 0 where
-  pub size : most ≡ largest rounded n (times rounded n (solvedB n before) (from (termAt n) before))
-  pub sums : (k : ℕ) → k < n → from (sum_at n) after k ≡ plus rounded (from (sum_at n) before) (times rounded n (solvedB n before) (from (termAt n) before)) k
-  pub terms : (k : ℕ) → k < n → from (termAt n) after k ≡ times rounded n (solvedB n before) (from (termAt n) before) k
-  pub nexts : (k : ℕ) → k < n → from (next_at n) after k ≡ times rounded n (solvedB n before) (from (termAt n) before) k
-  pub elsewhere : (i : ℕ) → Outside (sum_at n) n i → Outside (termAt n) (2 * n) i → float_at after i ≡ float_at before i
+  pub size : most ≡ largest rounded n (times rounded n (solved_b n before) (from (term_at n) before))
+  pub sums : (k : ℕ) → k < n → from (sum_at n) after k ≡ plus rounded (from (sum_at n) before) (times rounded n (solved_b n before) (from (term_at n) before)) k
+  pub terms : (k : ℕ) → k < n → from (term_at n) after k ≡ times rounded n (solved_b n before) (from (term_at n) before) k
+  pub nexts : (k : ℕ) → k < n → from (next_at n) after k ≡ times rounded n (solved_b n before) (from (term_at n) before) k
+  pub elsewhere : (i : ℕ) → Outside (sum_at n) n i → Outside (term_at n) (2 * n) i → float_at after i ≡ float_at before i

@@ -7,18 +7,18 @@ use Rattle.fit_linear.specs.Arithmetic.{Arith}
 -- the sum and the last term where the rounds ended
 pub data Series (Num : Type 0) : Type 0 where
   converged : (ℕ → Num) → (ℕ → Num) → Series Num
-  notConverged : (ℕ → Num) → (ℕ → Num) → Series Num
+  not_converged : (ℕ → Num) → (ℕ → Num) → Series Num
 
-abbrev pub seriesSum : {Num : Type 0} → Series Num → ℕ → Num
-seriesSum (converged sum term) = sum
-seriesSum (notConverged sum term) = sum
+abbrev pub series_sum : {Num : Type 0} → Series Num → ℕ → Num
+series_sum (converged sum term) = sum
+series_sum (not_converged sum term) = sum
 
-abbrev pub seriesTerm : {Num : Type 0} → Series Num → ℕ → Num
-seriesTerm (converged sum term) = term
-seriesTerm (notConverged sum term) = term
+abbrev pub series_term : {Num : Type 0} → Series Num → ℕ → Num
+series_term (converged sum term) = term
+series_term (not_converged sum term) = term
 
 module _ (F : Arith) where
-  open F use {Num, 𝟘, ◌⊕◌, ◌⊗◌, start, size, max, isInfinite, isTiny, clamp}
+  open F use {Num, 𝟘, ◌⊕◌, ◌⊗◌, start, size, max, is_infinite, is_tiny, clamp}
 
   infixl 65 ◌⊕◌
   infixl 70 ◌⊗◌
@@ -45,29 +45,29 @@ module _ (F : Arith) where
   -- a sum and its last term, with so many rounds left: term = B × term, added on; an infinite largest does not converge; a largest below 1e-12 ends
   unfoldable pub summed : ℕ → (ℕ → Vector) → ℕ → Vector → Vector → Series Num
   unfolding dot largest
-  summed n B zero sum term = notConverged sum term
+  summed n B zero sum term = not_converged sum term
   summed n B (suc left) sum term =
       let next = times n B term in
       let total = plus sum next in
-      cond (isInfinite (largest n next)) (notConverged total next)
-      (cond (isTiny (largest n next)) (converged total next)
+      cond (is_infinite (largest n next)) (not_converged total next)
+      (cond (is_tiny (largest n next)) (converged total next)
       (summed n B left total next))
 
   -- a series that the number of its rounds did not cut off: it has converged, or its last term has an infinite largest
   abbrev pub RoundsEnded : ℕ → Series Num → Type 0
   RoundsEnded n (converged sum term) = Unit {0}
-  RoundsEnded n (notConverged sum term) = isInfinite (largest n term) ≡ true
+  RoundsEnded n (not_converged sum term) = is_infinite (largest n term) ≡ true
 
   -- G1 + B G1 + B B G1 + ..
-  abbrev pub sumSeries : ℕ → (ℕ → Vector) → Vector → ℕ → Series Num
-  sumSeries n B G1 rounds = summed n B rounds G1 G1
+  abbrev pub sum_series : ℕ → (ℕ → Vector) → Vector → ℕ → Series Num
+  sum_series n B G1 rounds = summed n B rounds G1 G1
 
   -- F + B × share, so many times from F
-  unfoldable pub shareAfter : ℕ → (ℕ → Vector) → Vector → ℕ → Vector
+  unfoldable pub share_after : ℕ → (ℕ → Vector) → Vector → ℕ → Vector
   unfolding dot
-  shareAfter n B F zero = F
-  shareAfter n B F (suc rounds) = plus F (times n B (shareAfter n B F rounds))
+  share_after n B F zero = F
+  share_after n B F (suc rounds) = plus F (times n B (share_after n B F rounds))
 
   -- the share, clamped to 0..1
-  abbrev pub fallbackWithinMoves : ℕ → (ℕ → Vector) → Vector → ℕ → Vector
-  fallbackWithinMoves n B F rounds i = clamp (shareAfter n B F rounds i)
+  abbrev pub fallback_within : ℕ → (ℕ → Vector) → Vector → ℕ → Vector
+  fallback_within n B F rounds i = clamp (share_after n B F rounds i)

@@ -7,8 +7,8 @@ ghost use Rattle.basics.specs.Loan.{given, final};
 ghost use Rattle.floats.specs.Floats as Floats;
 ghost use Rattle.fit_linear.specs.Arithmetic.{rounded};
 ghost use Rattle.fit_linear.specs.Inner.{from, rows_of, Filled};
-ghost use Rattle.fit_series.specs.Series.{dot, times, plus, largest, summed, sumSeries, shareAfter, fallbackWithinMoves};
-ghost use Rattle.fit_series.specs.Inner.{sum_at, shareAt, termAt, next_at, solvedG1, solvedF, solvedB, Scratch, Summed, lastProduct, Shared, FourDots, ProductTo, Column, TermAdded};
+ghost use Rattle.fit_series.specs.Series.{dot, times, plus, largest, summed, sum_series, share_after, fallback_within};
+ghost use Rattle.fit_series.specs.Inner.{sum_at, share_at, term_at, next_at, solved_g1, solved_f, solved_b, Scratch, Summed, last_product, Shared, FourDots, ProductTo, Column, TermAdded};
 
 use super::Sum;
 
@@ -168,7 +168,7 @@ fn add_term(s: &mut [f64], n: usize) -> f64
 // Adds terms on to a sum.
 fn add_terms(s: &mut [f64], n: usize, rounds: usize) -> Sum
     requires { Scratch n s.old }
-    ensures { Summed n rounds (summed rounded n (solvedB n (given s)) rounds (from (sum_at n) (given s)) (from (termAt n) (given s))) (given s) result (final s) }
+    ensures { Summed n rounds (summed rounded n (solved_b n (given s)) rounds (from (sum_at n) (given s)) (from (term_at n) (given s))) (given s) result (final s) }
 {
     let mut left = rounds;
     while 0 < left {
@@ -187,7 +187,7 @@ fn add_terms(s: &mut [f64], n: usize, rounds: usize) -> Sum
 // The series from G1, with at most so many rounds (document 01: 10,000).
 pub fn sum_series(scratch: &mut [f64], n: usize, rounds: usize) -> Sum
     requires { Scratch n scratch.old }
-    ensures { Summed n rounds (sumSeries rounded n (solvedB n (given scratch)) (solvedG1 n (given scratch)) rounds) (given scratch) result (final scratch) }
+    ensures { Summed n rounds (sum_series rounded n (solved_b n (given scratch)) (solved_g1 n (given scratch)) rounds) (given scratch) result (final scratch) }
 {
     let w = 2 * n + 2;
     let sum = n * w;
@@ -199,7 +199,7 @@ pub fn sum_series(scratch: &mut [f64], n: usize, rounds: usize) -> Sum
 // One round of the share.
 fn next_share(s: &mut [f64], n: usize)
     requires { Scratch n s.old }
-    ensures { let p = times rounded n (solvedB n (given s)) (from (shareAt n) (given s)) in Shared n 1 (plus rounded (solvedF n (given s)) p) p (given s) (final s) }
+    ensures { let p = times rounded n (solved_b n (given s)) (from (share_at n) (given s)) in Shared n 1 (plus rounded (solved_f n (given s)) p) p (given s) (final s) }
 {
     let w = 2 * n + 2;
     let share = n * w + n;
@@ -210,8 +210,8 @@ fn next_share(s: &mut [f64], n: usize)
 
 // Rounds of the share, from F.
 fn add_shares(s: &mut [f64], n: usize, rounds: usize)
-    requires { Scratch n s.old × ((k : ℕ) → k < n → from (shareAt n) s.old k ≡ solvedF n s.old k) }
-    ensures { let B = solvedB n (given s) in let F = solvedF n (given s) in Shared n rounds (shareAfter rounded n B F rounds) (lastProduct n B F rounds) (given s) (final s) }
+    requires { Scratch n s.old × ((k : ℕ) → k < n → from (share_at n) s.old k ≡ solved_f n s.old k) }
+    ensures { let B = solved_b n (given s) in let F = solved_f n (given s) in Shared n rounds (share_after rounded n B F rounds) (last_product n B F rounds) (given s) (final s) }
 {
     let mut done = 0;
     while done < rounds {
@@ -223,8 +223,8 @@ fn add_shares(s: &mut [f64], n: usize, rounds: usize)
 // The probability of reaching a fallback state within so many moves of the mid (document 01: 10).
 pub fn fallback_within_moves(scratch: &mut [f64], n: usize, rounds: usize)
     requires { Scratch n scratch.old }
-    ensures { let B = solvedB n (given scratch) in let F = solvedF n (given scratch) in
-        Shared n rounds (fallbackWithinMoves rounded n B F rounds) (lastProduct n B F rounds) (given scratch) (final scratch) }
+    ensures { let B = solved_b n (given scratch) in let F = solved_f n (given scratch) in
+        Shared n rounds (fallback_within rounded n B F rounds) (last_product n B F rounds) (given scratch) (final scratch) }
 {
     let w = 2 * n + 2;
     let share = n * w + n;

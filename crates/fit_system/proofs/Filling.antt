@@ -14,8 +14,8 @@ use lib.ListN.{length, set, length-set}
 use lib.Seq.{get_or-set_same, get_or-set_other}
 use lib.Ieee.{Float, nan, binary64, in_float, sub, neg}
 use Rattle.basics.proofs.Tests.{le-or-lt}
-use Rattle.floats.specs.Floats.{posZero, one, exactWhole}
-use Rattle.model.specs.Status.{statusNumber}
+use Rattle.floats.specs.Floats.{pos_zero, one, exact_whole}
+use Rattle.model.specs.Status.{status_number}
 use Rattle.model.specs.declared.StateStatus.{StateStatus}
 use Rattle.model.specs.declared.StateStatus.TheVariants.{Calibrated, Rare, NoPriceMove, OutsideQuotes}
 use Rattle.basics.specs.Lists.{cell_at}
@@ -29,7 +29,7 @@ use Rattle.fit_linear.specs.Inner.{float_at, from, Becomes, Filled}
 use Rattle.fit_series.specs.Inner.{width}
 use Rattle.fit_linear.proofs.Parts.{outside-row}
 use Rattle.fit_system.specs.Inner.{Exact}
-use Rattle.fit_system.specs.Rows.{total_of, isCalibrated, used, part, Q, T, K, fallback, systemOf}
+use Rattle.fit_system.specs.Rows.{total_of, is_calibrated, used, part, Q, T, K, fallback, system_of}
 
 -- ---- numbers of a row
 
@@ -39,12 +39,12 @@ cell_below n k f h = omega (arith, sum_more k f, sum-part (k + 1) n f (omega ari
 -- row x lies in the tables, and its cells, its move total and its observations o are exact as floats
 pub record RowExact (n : ℕ) (stay moved : List ℕ) (totals : List ℤ) (x o : ℕ) : Type 0 where
   pub stay-in : x * n + n ≤ length stay
-  pub stay-exact : (k : ℕ) → k < n → cell_at n stay x k ≤ exactWhole
+  pub stay-exact : (k : ℕ) → k < n → cell_at n stay x k ≤ exact_whole
   pub moved_in : x * n + n ≤ length moved
-  pub moved-exact : (k : ℕ) → k < n → cell_at n moved x k ≤ exactWhole
+  pub moved-exact : (k : ℕ) → k < n → cell_at n moved x k ≤ exact_whole
   pub total-in : x < length totals
   pub total-exact : in_float binary64 (total_of totals x) ≡ true
-  pub observed-exact : o ≤ exactWhole
+  pub observed-exact : o ≤ exact_whole
 
 pub row-exact : {n : ℕ} {stay moved : List ℕ} {totals : List ℤ} {x o : ℕ} → Exact n stay moved totals → x < n
     → o ≡ observations (cells_of n 0 stay moved) x → RowExact n stay moved totals x o
@@ -61,7 +61,7 @@ row-exact {n} {stay} {moved} {totals} {x} {o} e h is-o =
     }
 
 -- the number of a mark says whether the row is used
-pub used-number : (s : StateStatus) → eqb (statusNumber s) 0 ≡ isCalibrated s
+pub used-number : (s : StateStatus) → eqb (status_number s) 0 ≡ is_calibrated s
 used-number Calibrated = refl
 used-number Rare = refl
 used-number NoPriceMove = refl
@@ -167,9 +167,9 @@ pub state-row : (C : Cells) (total : ℕ → ℤ) (x base : ℕ) (u : Bool) (o :
     → Filled base C.states (λ k. let q = part u (pos (C.stay x k)) o in cond (eqb x k) (sub binary64 one q) (neg q)) l m
     → base + (C.states + 1) < length m
     → t ≡ part u (total x) o
-    → f ≡ cond u posZero one
+    → f ≡ cond u pos_zero one
     → Filled (base + (C.states + 2)) C.states (λ k. part u (pos (C.moved x k)) o) (set (set m (base + C.states) t) (base + (C.states + 1)) f) e
-    → Filled base (width C.states) (systemOf C total x) l e
+    → Filled base (width C.states) (system_of C total x) l e
 state-row C total x base u o is-u is-o l m e t f a long is-t is_f b =
     row-filled C.states (Q C) (K C total) (fallback C) (T C) x base l m e t f
     (rw (is-u, is-o) at a)
@@ -180,15 +180,15 @@ state-row C total x base u o is-u is-o l m e t f a long is-t is_f b =
 
 -- row x of a state with this mark, by its parts in the order of the code
 pub row-by-parts : (n least mark x o : ℕ) (stay moved : List ℕ) (totals : List ℤ) {l m e : List Float} {t f : Float}
-    → mark ≡ statusNumber (mark_of (cells_of n least stay moved) x)
+    → mark ≡ status_number (mark_of (cells_of n least stay moved) x)
     → o ≡ observations (cells_of n 0 stay moved) x
     → Filled (x * width n) n (λ k. let q = part (eqb mark 0) (pos (cell_at n stay x k)) o in cond (eqb x k) (sub binary64 one q) (neg q)) l m
     → x * width n + width n ≤ length m
     → t ≡ part (eqb mark 0) (total_of totals x) o
-    → f ≡ cond (eqb mark 0) posZero one
+    → f ≡ cond (eqb mark 0) pos_zero one
     → Filled (x * width n + (n + 2)) n (λ k. part (eqb mark 0) (pos (cell_at n moved x k)) o)
     (set (set m (x * width n + n) t) (x * width n + (n + 1)) f) e
-    → Filled (x * width n) (width n) (systemOf (cells_of n least stay moved) (total_of totals) x) l e
+    → Filled (x * width n) (width n) (system_of (cells_of n least stay moved) (total_of totals) x) l e
 row-by-parts n least mark x o stay moved totals {l} {m} {e} {t} {f} marked is-o left long is-t is_f right =
     let C = cells_of n least stay moved in
     state-row C (total_of totals) x (x * width n) (eqb mark 0) o

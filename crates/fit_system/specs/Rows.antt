@@ -2,27 +2,27 @@
 use Rattle.std.specs.Prelude.{ℕ, Bool, true, false, cond, ℤ, pos, Float, List, get_or}
 use Rattle.std.specs.Float.{binary64}
 use Rattle.std.specs.Float.Ieee.{div}
-use Rattle.floats.specs.Floats.{posZero, one, from_int}
+use Rattle.floats.specs.Floats.{pos_zero, one, from_int}
 use Rattle.model.specs.declared.StateStatus.{StateStatus}
 use Rattle.model.specs.declared.StateStatus.TheVariants.{Calibrated, Rare, NoPriceMove, OutsideQuotes}
 use Rattle.fit_marking.specs.Marks.{Cells, observations, mark_of}
 use Rattle.fit_linear.specs.Arithmetic.{rounded}
 use Rattle.fit_linear.specs.Elimination.{system}
 
-abbrev pub isCalibrated : StateStatus → Bool
-isCalibrated Calibrated = true
-isCalibrated Rare = false
-isCalibrated NoPriceMove = false
-isCalibrated OutsideQuotes = false
+abbrev pub is_calibrated : StateStatus → Bool
+is_calibrated Calibrated = true
+is_calibrated Rare = false
+is_calibrated NoPriceMove = false
+is_calibrated OutsideQuotes = false
 
 -- only Calibrated states have rows
 abbrev pub used : Cells → ℕ → Bool
-used C i = isCalibrated (mark_of C i)
+used C i = is_calibrated (mark_of C i)
 
 -- a number of a row by its observations, where the row is used
 unfoldable pub part : Bool → ℤ → ℕ → Float
 unfolding div
-part used number observed = cond used (div binary64 (from_int number) (from_int (pos observed))) posZero
+part used number observed = cond used (div binary64 (from_int number) (from_int (pos observed))) pos_zero
 
 -- stay / observations
 abbrev pub Q : Cells → ℕ → ℕ → Float
@@ -38,11 +38,11 @@ K C total i = part (used C i) (total i) (observations C i)
 
 -- 1 for a fallback state, else 0
 abbrev pub fallback : Cells → ℕ → Float
-fallback C i = cond (used C i) posZero one
+fallback C i = cond (used C i) pos_zero one
 
 -- (1 − Q) | K | fallback | T
-abbrev pub systemOf : Cells → (ℕ → ℤ) → ℕ → ℕ → Float
-systemOf C total = system rounded C.states (Q C) (K C total) (fallback C) (T C)
+abbrev pub system_of : Cells → (ℕ → ℤ) → ℕ → ℕ → Float
+system_of C total = system rounded C.states (Q C) (K C total) (fallback C) (T C)
 
 -- the totals by state
 abbrev pub total_of : List ℤ → ℕ → ℤ

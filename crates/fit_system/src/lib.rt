@@ -1,18 +1,20 @@
 // The rows of the fit and the solution of its system (document 01, "The fit").
 // Inner functions: for the crates above, not for users. Where one has a `requires`, each caller proves it.
+#![tactic(auto)]
+
 ghost use Rattle.std.specs.Prelude.{◌≡◌, true, cond, ℕ, ◌+◌, ◌*◌, ◌<◌, ◌≤◌, eqb, pos, length};
 ghost use Rattle.std.specs.Float.{binary64};
 ghost use Rattle.std.specs.Float.Ieee.{in_float, sub, neg};
 ghost use Rattle.basics.specs.Loan.{given, final};
-ghost use Rattle.floats.specs.Floats.{one, posZero, exactWhole};
-ghost use Rattle.model.specs.Status.{statusNumber};
+ghost use Rattle.floats.specs.Floats.{one, pos_zero, exact_whole};
+ghost use Rattle.model.specs.Status.{status_number};
 ghost use Rattle.basics.specs.Lists.{cell_at};
 ghost use Rattle.fit_marking.specs.Marks.{cells_of, mark_of};
 ghost use Rattle.fit_linear.specs.Inner.{Becomes, Filled};
 ghost use Rattle.fit_series.specs.Inner.{Scratch, width};
-ghost use Rattle.fit_system.specs.Rows.{part, systemOf, total_of};
+ghost use Rattle.fit_system.specs.Rows.{part, system_of, total_of};
 ghost use Rattle.fit_system.specs.Inner.{Exact, Marks, SolvedIn};
-ghost use Rattle.fit_system.specs.Solution.{solutionOf};
+ghost use Rattle.fit_system.specs.Solution.{solution_of};
 
 use fit_linear::Solve;
 use fit_series::Sum;
@@ -20,7 +22,7 @@ use refusals::{Check, Refusal};
 
 // A count by the row's observations, or zero.
 fn part_of(count: u64, observed: u64, is_used: bool) -> f64
-    requires { (count ≤ exactWhole) × (observed ≤ exactWhole) }
+    requires { (count ≤ exact_whole) × (observed ≤ exact_whole) }
     ensures { result ≡ part is_used (pos count) observed }
 {
     if is_used {
@@ -31,7 +33,7 @@ fn part_of(count: u64, observed: u64, is_used: bool) -> f64
 
 // The move total of x by its observations, or zero.
 fn total_part(move_half_ticks: &[i64], x: usize, observed: u64, is_used: bool) -> f64
-    requires { (x < length move_half_ticks.now) × (in_float binary64 (total_of move_half_ticks.now x) ≡ true) × (observed ≤ exactWhole) }
+    requires { (x < length move_half_ticks.now) × (in_float binary64 (total_of move_half_ticks.now x) ≡ true) × (observed ≤ exact_whole) }
     ensures { result ≡ part is_used (total_of (given move_half_ticks) x) observed }
 {
     if is_used {
@@ -52,7 +54,7 @@ fn less_stay(on_diagonal: bool, q: f64) -> f64
 
 // 1 for a fallback state, else 0.
 fn fallback_of(is_used: bool) -> f64
-    ensures { result ≡ cond is_used posZero one }
+    ensures { result ≡ cond is_used pos_zero one }
 {
     if is_used {
         return 0.0;
@@ -70,7 +72,7 @@ fn fill_stay(
     scratch: &mut [f64],
     to: usize,
 )
-    requires { (x * n + n ≤ length stay.now) × ((k : ℕ) → k < n → cell_at n stay.now x k ≤ exactWhole) × (observed ≤ exactWhole) × (to + n ≤ length scratch.old) }
+    requires { (x * n + n ≤ length stay.now) × ((k : ℕ) → k < n → cell_at n stay.now x k ≤ exact_whole) × (observed ≤ exact_whole) × (to + n ≤ length scratch.old) }
     ensures { Filled to n (λ k. let q = part is_used (pos (cell_at n (given stay) x k)) observed in cond (eqb x k) (sub binary64 one q) (neg q)) (given scratch) (final scratch) }
 {
     let row = x * n;
@@ -92,7 +94,7 @@ fn fill_moved(
     scratch: &mut [f64],
     to: usize,
 )
-    requires { (x * n + n ≤ length moved.now) × ((k : ℕ) → k < n → cell_at n moved.now x k ≤ exactWhole) × (observed ≤ exactWhole) × (to + n ≤ length scratch.old) }
+    requires { (x * n + n ≤ length moved.now) × ((k : ℕ) → k < n → cell_at n moved.now x k ≤ exact_whole) × (observed ≤ exact_whole) × (to + n ≤ length scratch.old) }
     ensures { Filled to n (λ k. part is_used (pos (cell_at n (given moved) x k)) observed) (given scratch) (final scratch) }
 {
     let row = x * n;
@@ -114,8 +116,8 @@ fn fill_row(
     scratch: &mut [f64],
 )
     requires { Exact n stay.now moved.now move_half_ticks.now × (x < n) × (n * width n ≤ length scratch.old) }
-    ensures { (least : ℕ) → let C = cells_of n least (given stay) (given moved) in mark ≡ statusNumber (mark_of C x)
-        → Filled (x * width n) (width n) (systemOf C (total_of (given move_half_ticks)) x) (given scratch) (final scratch) }
+    ensures { (least : ℕ) → let C = cells_of n least (given stay) (given moved) in mark ≡ status_number (mark_of C x)
+        → Filled (x * width n) (width n) (system_of C (total_of (given move_half_ticks)) x) (given scratch) (final scratch) }
 {
     let observed = fit_marking::observations_of(stay, moved, n, x);
     let is_used = mark == 0;
@@ -137,7 +139,7 @@ fn fill_system(
 )
     requires { Exact n stay.now moved.now move_half_ticks.now × (n ≤ length marks.now) × (n * width n ≤ length scratch.old) }
     ensures { (least : ℕ) → let C = cells_of n least (given stay) (given moved) in Marks C (given marks)
-        → Becomes n (width n) (systemOf C (total_of (given move_half_ticks))) (given scratch) (final scratch) }
+        → Becomes n (width n) (system_of C (total_of (given move_half_ticks))) (given scratch) (final scratch) }
 {
     let mut x: usize = 0;
     while x < n {
@@ -159,7 +161,7 @@ pub fn solve_system(
 ) -> Check
     requires { Exact n stay.now moved.now move_half_ticks.now × (n ≤ length marks.now) × Scratch n scratch.old }
     ensures { (least : ℕ) → let C = cells_of n least (given stay) (given moved) in Marks C (given marks)
-        → SolvedIn n (solutionOf rounds moves C (total_of (given move_half_ticks))) result (final scratch) }
+        → SolvedIn n (solution_of rounds moves C (total_of (given move_half_ticks))) result (final scratch) }
 {
     fill_system(stay, moved, move_half_ticks, n, marks, scratch);
     let Solve::Solved = fit_linear::inner::gauss_jordan(scratch, n, 2 * n + 2) else {

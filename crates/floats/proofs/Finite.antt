@@ -5,11 +5,11 @@ use Prim.Native.Nat.{◌*◌}
 use lib.Ieee.{Float, nan, inf, fin, up, down, eq}
 use lib.Ieee.Scale.{finite}
 use Rattle.basics.proofs.Tests.{eqb_same}
-use Rattle.floats.specs.Floats.{isInfinite}
+use Rattle.floats.specs.Floats.{is_infinite}
 
 -- equal to itself, and no infinity
-pub finite-is : (x : Float) → (eq x x && not (isInfinite x)) ≡ finite x
-unfolding eq isInfinite
+pub finite-is : (x : Float) → (eq x x && not (is_infinite x)) ≡ finite x
+unfolding eq is_infinite
 finite-is nan = refl
 finite-is (inf true) = refl
 finite-is (inf false) = refl

@@ -14,7 +14,7 @@ use lib.Ieee.{Float, nan, inf, fin, Format, binary64, up, down, neg, add, sub, m
 use lib.Ieee.Fits.{up_pos, down_pos, round_is, round-fits}
 use lib.Ieee.Exact.{HasValue, round_exact}
 use lib.Ieee.Scale.{finite}
-use Rattle.floats.specs.Floats.{abs, plusZero}
+use Rattle.floats.specs.Floats.{abs, plus_zero}
 
 -- ---- negation
 
@@ -209,8 +209,8 @@ abs_neg nan = refl
 abs_neg (inf s) = refl
 abs_neg (fin s m e) = refl
 
-pub abs-plus : (x : Float) → abs (plusZero x) ≡ abs x
-unfolding abs plusZero
+pub abs-plus : (x : Float) → abs (plus_zero x) ≡ abs x
+unfolding abs plus_zero
 abs-plus nan = refl
 abs-plus (inf s) = refl
 abs-plus (fin s zero e) = refl
@@ -222,24 +222,24 @@ abs-finite nan = refl
 abs-finite (inf s) = refl
 abs-finite (fin s m e) = refl
 
-pub plus-finite : (x : Float) → T (finite x) → T (finite (plusZero x))
-unfolding plusZero
+pub plus-finite : (x : Float) → T (finite x) → T (finite (plus_zero x))
+unfolding plus_zero
 plus-finite nan h = h
 plus-finite (inf s) h = h
 plus-finite (fin s zero e) h = tt
 plus-finite (fin s (suc m) e) h = tt
 
-pub plus-neg-plus : (x : Float) → plusZero (neg (plusZero x)) ≡ plusZero (neg x)
-unfolding plusZero neg
+pub plus-neg-plus : (x : Float) → plus_zero (neg (plus_zero x)) ≡ plus_zero (neg x)
+unfolding plus_zero neg
 plus-neg-plus nan = refl
 plus-neg-plus (inf s) = refl
 plus-neg-plus (fin s zero e) = refl
 plus-neg-plus (fin s (suc m) e) = refl
 
 -- of two floats written with plus zero, one the other's negation, the sum is plus zero
-pub plus-sum-zero : (x y : Float) → T (fits binary64 x) → T (finite x) → plusZero y ≡ plusZero (neg x)
-    → add binary64 (plusZero x) (plusZero y) ≡ fin false 0 (pos 0)
-unfolding plusZero neg
+pub plus-sum-zero : (x y : Float) → T (fits binary64 x) → T (finite x) → plus_zero y ≡ plus_zero (neg x)
+    → add binary64 (plus_zero x) (plus_zero y) ≡ fin false 0 (pos 0)
+unfolding plus_zero neg
 plus-sum-zero nan y t p e = absurd p
 plus-sum-zero (inf s) y t p e = absurd p
 plus-sum-zero (fin s zero d) y t p e = rw (e, zero_exp binary64 s d t) (unfold add in refl)

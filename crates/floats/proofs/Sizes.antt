@@ -5,15 +5,15 @@ use lib.Dec.{T}
 use lib.Ieee.{Float, nan, inf, fin, lt, le, eq, is_nan}
 use lib.Ieee.Bits.{is_true}
 use Rattle.basics.proofs.Tests.{neither}
-use Rattle.floats.specs.Floats.{asGreat}
+use Rattle.floats.specs.Floats.{as_great}
 use Rattle.floats.proofs.Order.{le-trans-float, not-below}
 
 -- of two that are no NaN
 le_total : (x y : Float) → T (not (is_nan x)) → T (not (is_nan y)) → le x y ≡ false → le y x ≡ true
 le_total x y p q h = is_true (le y x) (not-below x y p q (neither (lt x y) (eq x y) (unfold le in h)).0)
 
-pub great-total : (x y : Float) → asGreat x y ≡ false → asGreat y x ≡ true
-unfolding asGreat is_nan
+pub great-total : (x y : Float) → as_great x y ≡ false → as_great y x ≡ true
+unfolding as_great is_nan
 great-total nan y h = refl
 great-total (inf s) nan h = absurd (true≢false h)
 great-total (inf s) (inf t) h = le_total (inf s) (inf t) tt tt h
@@ -29,8 +29,8 @@ nan-below : (z : Float) → le nan z ≡ true → ⊥
 unfolding le
 nan-below z h = false≢true h
 
-pub great-trans : (x y z : Float) → asGreat x y ≡ true → asGreat y z ≡ true → asGreat x z ≡ true
-unfolding asGreat is_nan
+pub great-trans : (x y z : Float) → as_great x y ≡ true → as_great y z ≡ true → as_great x z ≡ true
+unfolding as_great is_nan
 great-trans x y nan h k = refl
 great-trans x nan (inf u) h k = absurd (nan-below (inf u) k)
 great-trans x nan (fin u p g) h k = absurd (nan-below (fin u p g) k)

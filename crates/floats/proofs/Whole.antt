@@ -13,7 +13,7 @@ use lib.Ieee.Fits.{down_pos}
 use lib.Ieee.Exact.{HasValue, round_exact}
 use lib.Ieee.Back.{round_whole}
 use lib.Ieee.Scale.{round_same}
-use Rattle.floats.specs.Floats.{tiny, two, from_int, half, exactWhole}
+use Rattle.floats.specs.Floats.{tiny, two, from_int, half, exact_whole}
 
 pub tiny-is : tiny ≡ round binary64 false 1 1000000000000
 unfolding of_bits round
@@ -26,8 +26,8 @@ sign_of (negsuc n) = true
 
 pub whole-exact : (z : ℤ) → in_float binary64 z ≡ true → HasValue (from_int z) (sign_of z) (nat_abs z) 1
 unfolding in_float of_int
-whole-exact (pos n) h = round_whole binary64 false n (leb-true n exactWhole h)
-whole-exact (negsuc n) h = round_whole binary64 true (suc n) (ltb-true n exactWhole h)
+whole-exact (pos n) h = round_whole binary64 false n (leb-true n exact_whole h)
+whole-exact (negsuc n) h = round_whole binary64 true (suc n) (ltb-true n exact_whole h)
 
 halved : (x : Float) (a c : ℕ) → 0 < c → HasValue x false a c → div binary64 x two ≡ round binary64 false a (2 * c)
 unfolding div of_bits
@@ -38,7 +38,7 @@ halved (fin false m e) a c C v =
     round_same binary64 false (m * up e * 1) (2 * down e) a (2 * c) (mul-pos (zero-lt-suc 1) (down_pos e)) (mul-pos (zero-lt-suc 1) C)
     (ap (λ (z : ℕ). z * (2 * c)) (mul-one (m * up e)) ∙ mul_left_comm (m * up e) 2 c ∙ ap (λ (z : ℕ). 2 * z) v.1 ∙ mul_left_comm 2 a (down e))
 
-pub half-exact : (n : ℕ) → n < exactWhole → HasValue (half n) false n 2
+pub half-exact : (n : ℕ) → n < exact_whole → HasValue (half n) false n 2
 unfolding half of_int
 half-exact n h =
     rw (halved (from_int (pos n)) n 1 (zero-lt-suc 0) (round_whole binary64 false n (omega arith)))

@@ -12,7 +12,7 @@ use lib.Ieee.Fits.{down_pos}
 use lib.Ieee.Exact.{HasValue}
 use lib.Ieee.Order.{transfer}
 use lib.Ieee.Scale.{finite, round_same}
-use Rattle.floats.specs.Floats.{abs, from_int, half, exactWhole}
+use Rattle.floats.specs.Floats.{abs, from_int, half, exact_whole}
 use Rattle.floats.proofs.Signs.{abs_neg, neg-neg, sum_like}
 use Rattle.floats.proofs.Order.{sub-times, le-trans-float, le-neg, le→sizes, sizes→le, add-mono}
 use Rattle.floats.proofs.Whole.{half-exact}
@@ -23,16 +23,16 @@ use Rattle.floats.proofs.Whole.{half-exact}
 crossed : (X e g a c d : ℕ) → X * c ≡ a * e → X * g * (c * d) ≡ a * d * (e * g)
 crossed X e g a c d p = simp (mul_assoc, mul_comm, mul_left_comm) (simp (mul_assoc, mul_comm, mul_left_comm) at (ap (λ (z : ℕ). z * (g * d)) p))
 
-pub add_at : (f : Format) (x y : Float) (a c b d : ℕ) → 0 < c → 0 < d → HasValue x false a c → HasValue y false b d
+pub add_at_lem : (f : Format) (x y : Float) (a c b d : ℕ) → 0 < c → 0 < d → HasValue x false a c → HasValue y false b d
     → add f x y ≡ round f false (a * d + b * c) (c * d)
 unfolding add
-add_at f nan y a c b d C D v w = absurd v
-add_at f (inf s) y a c b d C D v w = absurd v
-add_at f (fin true m e) y a c b d C D v w = absurd (true≢false v.0)
-add_at f (fin false m e) nan a c b d C D v w = absurd w
-add_at f (fin false m e) (inf t) a c b d C D v w = absurd w
-add_at f (fin false m e) (fin true n g) a c b d C D v w = absurd (true≢false w.0)
-add_at f (fin false m e) (fin false n g) a c b d C D v w =
+add_at_lem f nan y a c b d C D v w = absurd v
+add_at_lem f (inf s) y a c b d C D v w = absurd v
+add_at_lem f (fin true m e) y a c b d C D v w = absurd (true≢false v.0)
+add_at_lem f (fin false m e) nan a c b d C D v w = absurd w
+add_at_lem f (fin false m e) (inf t) a c b d C D v w = absurd w
+add_at_lem f (fin false m e) (fin true n g) a c b d C D v w = absurd (true≢false w.0)
+add_at_lem f (fin false m e) (fin false n g) a c b d C D v w =
     let X = m * up e in
     let Y = n * up g in
     let x : X * down g * (c * d) ≡ a * d * (down e * down g) = crossed X (down e) (down g) a c d v.1 in
@@ -120,13 +120,13 @@ values-le (fin false m e) (fin false n g) a c b d v w h =
 
 -- ---- the mid and half the spread make the ask and the bid
 
-ask-is : (b a : ℕ) → b ≤ a → b + a < exactWhole → add binary64 (half (b + a)) (half (a - b)) ≡ from_int (pos a)
+ask-is : (b a : ℕ) → b ≤ a → b + a < exact_whole → add binary64 (half (b + a)) (half (a - b)) ≡ from_int (pos a)
 unfolding of_int
 ask-is b a h k =
-    add_at binary64 (half (b + a)) (half (a - b)) (b + a) 2 (a - b) 2 (zero-lt-suc 1) (zero-lt-suc 1) (half-exact (b + a) k) (half-exact (a - b) (omega arith))
+    add_at_lem binary64 (half (b + a)) (half (a - b)) (b + a) 2 (a - b) 2 (zero-lt-suc 1) (zero-lt-suc 1) (half-exact (b + a) k) (half-exact (a - b) (omega arith))
     ∙ round_same binary64 false ((b + a) * 2 + (a - b) * 2) 4 a 1 (zero-lt-suc 3) (zero-lt-suc 0) (omega arith)
 
-bid-is : (b a : ℕ) → b ≤ a → b + a < exactWhole → add binary64 (half (b + a)) (neg (half (a - b))) ≡ from_int (pos b)
+bid-is : (b a : ℕ) → b ≤ a → b + a < exact_whole → add binary64 (half (b + a)) (neg (half (a - b))) ≡ from_int (pos b)
 unfolding of_int
 bid-is b a h k =
     sub_at binary64 (half (b + a)) (half (a - b)) (b + a) 2 (a - b) 2 (zero-lt-suc 1) (zero-lt-suc 1) (half-exact (b + a) k) (half-exact (a - b) (omega arith))
@@ -134,7 +134,7 @@ bid-is b a h k =
     ∙ round_same binary64 false ((b + a) * 2 - (a - b) * 2) 4 b 1 (zero-lt-suc 3) (zero-lt-suc 0) (omega arith)
 
 -- one price, inside the quotes
-pub inside : (b a : ℕ) (adj : Float) → b ≤ a → b + a < exactWhole → T (le (abs adj) (half (a - b)))
+pub inside : (b a : ℕ) (adj : Float) → b ≤ a → b + a < exact_whole → T (le (abs adj) (half (a - b)))
     → T (le (from_int (pos b)) (add binary64 (half (b + a)) adj)) × T (le (add binary64 (half (b + a)) adj) (from_int (pos a)))
 inside b a adj h k t =
     let hs = half (a - b) in

@@ -12,7 +12,7 @@ use lib.Ieee.{Float, nan, inf, fin, binary64, up, down, neg, add, sum, round, le
 use lib.Ieee.Fits.{up_pos, down_pos, and_l, and_r, round-fits, neg-fits}
 use lib.Ieee.Scale.{finite}
 use Rattle.basics.proofs.Tests.{zero-not-one, le-or-lt}
-use Rattle.floats.specs.Floats.{posZero, plusZero, abs, minusZero}
+use Rattle.floats.specs.Floats.{pos_zero, plus_zero, abs, minus_zero}
 use Rattle.floats.proofs.Helpers.{plus-zero}
 use Rattle.floats.proofs.Order.{SLe, le→sizes}
 use Rattle.floats.proofs.Rounding.{round-below, round-above, value-unique}
@@ -23,8 +23,8 @@ use Rattle.floats.proofs.Signs.{zero_exp, Three, less, same, more, three, sum_li
 abbrev smallest : Bool → Float
 smallest s = fin s 1 (negsuc 1073)
 
-zero-shape : (z : Float) → posZero ≡ plusZero z → (s : Bool) × (e : ℤ) × (z ≡ fin s 0 e)
-unfolding plusZero of_bits
+zero-shape : (z : Float) → pos_zero ≡ plus_zero z → (s : Bool) × (e : ℤ) × (z ≡ fin s 0 e)
+unfolding plus_zero of_bits
 zero-shape nan p = absurd (zero-not-one cc)
 zero-shape (inf s) p = absurd (zero-not-one cc)
 zero-shape (fin s zero e) p = (s, e, refl)
@@ -53,7 +53,7 @@ step-above c k h = omega arith
 step-below : (c k : ℕ) → c ≤ k → SLe true k true (1 * 1 * c)
 step-below c k h = omega arith
 
-steps-zero : (s : Bool) (k c : ℕ) → 0 < c → c ≤ k * 2 ^ 1074 → eq (round binary64 s k c) posZero ≡ true → ⊥
+steps-zero : (s : Bool) (k c : ℕ) → 0 < c → c ≤ k * 2 ^ 1074 → eq (round binary64 s k c) pos_zero ≡ true → ⊥
 steps-zero s k c C h z = go s refl
   where
     shape : (t : Bool) × (e : ℤ) × (round binary64 s k c ≡ fin t 0 e)
@@ -122,32 +122,32 @@ steps x y p q P Q (inr (r, e)) =
 -- ---- the sum
 
 -- a multiple of the unit that rounds to zero is zero
-none : (s : Bool) (u k n c : ℕ) → 0 < c → c ≤ u * 2 ^ 1074 → n ≡ u * k → eq (round binary64 s n c) posZero ≡ true → n ≡ 0
+none : (s : Bool) (u k n c : ℕ) → 0 < c → c ≤ u * 2 ^ 1074 → n ≡ u * k → eq (round binary64 s n c) pos_zero ≡ true → n ≡ 0
 none s u zero n c C h e z = e ∙ mul_comm u 0 ∙ zero-mul u
 none s u (suc k) n c C h e z =
     absurd (steps-zero s n c C (rw e (le_trans h (mul-le-mul_right (2 ^ 1074) (le-mul_of_pos_right u (zero-lt-suc k))))) z)
 
 -- of ±a / c and ±b / c
 module _ (a b c : ℕ) (C : 0 < c) (g : Steps a b c) where
-  like-none : (s : Bool) → eq (sum binary64 s a s b c) posZero ≡ true → (a ≡ 0) × (b ≡ 0)
+  like-none : (s : Bool) → eq (sum binary64 s a s b c) pos_zero ≡ true → (a ≡ 0) × (b ≡ 0)
   like-none s z =
       let k : a + b ≡ 0 =
       none s g.unit (g.a-times + g.b-times) (a + b) c C g.coarse ((λ i. g.a-is i + g.b-is i) ∙ sym (mul-add g.unit g.a-times g.b-times))
-      (sym (ap (λ (x : Float). eq x posZero) (sum_like binary64 s a b c)) ∙ z) in
+      (sym (ap (λ (x : Float). eq x pos_zero) (sum_like binary64 s a b c)) ∙ z) in
       (omega arith, omega arith)
 
-  unlike-same : (s : Bool) → Three a b → eq (sum binary64 s a (not s) b c) posZero ≡ true → a ≡ b
+  unlike-same : (s : Bool) → Three a b → eq (sum binary64 s a (not s) b c) pos_zero ≡ true → a ≡ b
   unlike-same s (less h) z =
       let k : b - a ≡ 0 =
       none (not s) g.unit (g.b-times - g.a-times) (b - a) c C g.coarse
       ((λ i. g.b-is i - g.a-is i) ∙ sym (mul-sub g.unit g.b-times g.a-times))
-      (sym (ap (λ (x : Float). eq x posZero) (sum_less binary64 s a b c h)) ∙ z) in
+      (sym (ap (λ (x : Float). eq x pos_zero) (sum_less binary64 s a b c h)) ∙ z) in
       omega arith
   unlike-same s (same h) z = h
   unlike-same s (more h) z =
       let k : a - b ≡ 0 =
       none s g.unit (g.a-times - g.b-times) (a - b) c C g.coarse ((λ i. g.a-is i - g.b-is i) ∙ sym (mul-sub g.unit g.a-times g.b-times))
-      (sym (ap (λ (x : Float). eq x posZero) (sum_more binary64 s a b c h)) ∙ z) in
+      (sym (ap (λ (x : Float). eq x pos_zero) (sum_more binary64 s a b c h)) ∙ z) in
       omega arith
 
 is_zero : (s : Bool) (m : ℕ) (e d : ℤ) → T (fits binary64 (fin s m e)) → m * up e * down d ≡ 0 → fin s m e ≡ fin s 0 (pos 0)
@@ -159,7 +159,7 @@ abbrev pub Cancels : Float → Float → Type 0
 Cancels x y = (y ≡ neg x) ⊎ ((s : Bool) × (x ≡ fin s 0 (pos 0)) × (y ≡ fin s 0 (pos 0)))
 
 cancel : (s t : Bool) (m n : ℕ) (e d : ℤ) → T (fits binary64 (fin s m e)) → T (fits binary64 (fin t n d))
-    → eq (sum binary64 s (m * up e * down d) t (n * up d * down e) (down e * down d)) posZero ≡ true
+    → eq (sum binary64 s (m * up e * down d) t (n * up d * down e) (down e * down d)) pos_zero ≡ true
     → Cancels (fin s m e) (fin t n d)
 cancel s t m n e d p q z = go s t p q z
   where
@@ -175,28 +175,28 @@ cancel s t m n e d p q z = go s t p q z
     g : Steps a b (down e * down d)
     g = steps (m * up e) (n * up d) (down e) (down d) (denominator s m e p) (denominator t n d q) (divides e d)
 
-    likes : (u : Bool) → T (fits binary64 (fin u m e)) → T (fits binary64 (fin u n d)) → eq (sum binary64 u a u b (down e * down d)) posZero ≡ true
+    likes : (u : Bool) → T (fits binary64 (fin u m e)) → T (fits binary64 (fin u n d)) → eq (sum binary64 u a u b (down e * down d)) pos_zero ≡ true
         → Cancels (fin u m e) (fin u n d)
     likes u i j h =
         let k = like-none a b (down e * down d) C g u h in
         inr (u, is_zero u m e d i k.0, is_zero u n d e j k.1)
 
     unlikes : (u : Bool) → T (fits binary64 (fin u m e)) → T (fits binary64 (fin (not u) n d))
-        → eq (sum binary64 u a (not u) b (down e * down d)) posZero ≡ true → Cancels (fin u m e) (fin (not u) n d)
+        → eq (sum binary64 u a (not u) b (down e * down d)) pos_zero ≡ true → Cancels (fin u m e) (fin (not u) n d)
     unlikes u i j h =
         let k = unlike-same a b (down e * down d) C g u (three a b) h in
         inl (unfold neg in
         value-unique binary64 (fin (not u) n d) (fin (not u) m e) (not u) (m * up e) (down e) (down_pos e) j
         (unfold neg in neg-fits binary64 (fin u m e) i) (refl, sym k) (refl, refl))
 
-    go : (u v : Bool) → T (fits binary64 (fin u m e)) → T (fits binary64 (fin v n d)) → eq (sum binary64 u a v b (down e * down d)) posZero ≡ true
+    go : (u v : Bool) → T (fits binary64 (fin u m e)) → T (fits binary64 (fin v n d)) → eq (sum binary64 u a v b (down e * down d)) pos_zero ≡ true
         → Cancels (fin u m e) (fin v n d)
     go true true i j h = likes true i j h
     go true false i j h = unlikes true i j h
     go false true i j h = unlikes false i j h
     go false false i j h = likes false i j h
 
-pub sum-zero : (x y : Float) → T (fits binary64 x) → T (fits binary64 y) → eq (add binary64 x y) posZero ≡ true → T (finite x) × Cancels x y
+pub sum-zero : (x y : Float) → T (fits binary64 x) → T (fits binary64 y) → eq (add binary64 x y) pos_zero ≡ true → T (finite x) × Cancels x y
 unfolding add eq of_bits
 sum-zero nan y p q z = absurd (false≢true z)
 sum-zero (inf s) nan p q z = absurd (false≢true z)
@@ -216,8 +216,8 @@ same_size x y (inl e) = sym (ap abs e ∙ abs_neg x)
 same_size x y (inr (s, e, f)) = ap abs (e ∙ sym f)
 
 -- the sum is plus zero, unless both are minus zero
-pub plus-sum : (x y : Float) → T (finite x) → Cancels x y → minusZero x ≡ false → add binary64 x y ≡ posZero
+pub plus-sum : (x y : Float) → T (finite x) → Cancels x y → minus_zero x ≡ false → add binary64 x y ≡ pos_zero
 unfolding of_bits add to_bits
 plus-sum x y p (inl e) n = ap (add binary64 x) e ∙ add-neg-self binary64 x p
 plus-sum x y p (inr (false, e, f)) n = λ i. add binary64 (e i) (f i)
-plus-sum x y p (inr (true, e, f)) n = absurd (true≢false (sym (ap minusZero e) ∙ n))
+plus-sum x y p (inr (true, e, f)) n = absurd (true≢false (sym (ap minus_zero e) ∙ n))

@@ -5,11 +5,11 @@ use lib.Ieee as Ieee
 
 -- ---- constants, by their bits
 
-abbrev pub posZero : Float
-posZero = of_bits binary64 0
+abbrev pub pos_zero : Float
+pos_zero = of_bits binary64 0
 
-abbrev pub negZero : Float
-negZero = of_bits binary64 0x8000_0000_0000_0000
+abbrev pub neg_zero : Float
+neg_zero = of_bits binary64 0x8000_0000_0000_0000
 
 abbrev pub one : Float
 one = of_bits binary64 0x3ff0_0000_0000_0000
@@ -30,9 +30,9 @@ abs (inf s) = inf false
 abs (fin s m e) = fin false m e
 
 -- of two sizes, the second is as great or greater: NaN above all and equal to any NaN
-unfoldable pub asGreat : Float → Float → Bool
+unfoldable pub as_great : Float → Float → Bool
 unfolding le is_nan
-asGreat x y = is_nan y || le x y
+as_great x y = is_nan y || le x y
 
 -- the larger of two; NaN is passed over
 unfoldable pub max : Float → Float → Float
@@ -41,41 +41,41 @@ max nan y = y
 max (inf s) y = cond (lt (inf s) y) y (inf s)
 max (fin s m e) y = cond (lt (fin s m e) y) y (fin s m e)
 
-unfoldable pub isInfinite : Float → Bool
-isInfinite nan = false
-isInfinite (inf s) = true
-isInfinite (fin s m e) = false
+unfoldable pub is_infinite : Float → Bool
+is_infinite nan = false
+is_infinite (inf s) = true
+is_infinite (fin s m e) = false
 
 -- clamped to 0..1; NaN stays
 unfoldable pub clamp : Float → Float
 unfolding lt of_bits
-clamp x = cond (lt x posZero) posZero (cond (lt one x) one x)
+clamp x = cond (lt x pos_zero) pos_zero (cond (lt one x) one x)
 
 -- zero as plus zero
-unfoldable pub plusZero : Float → Float
-plusZero nan = nan
-plusZero (inf s) = inf s
-plusZero (fin s zero e) = fin false zero e
-plusZero (fin s (suc m) e) = fin s (suc m) e
+unfoldable pub plus_zero : Float → Float
+plus_zero nan = nan
+plus_zero (inf s) = inf s
+plus_zero (fin s zero e) = fin false zero e
+plus_zero (fin s (suc m) e) = fin s (suc m) e
 
 -- ---- bits, any NaN as 0x7ff8_0000_0000_0000
 
-abbrev pub toBits : Float → ℕ
-toBits x = Ieee.toBits binary64 x
+abbrev pub bits_of : Float → ℕ
+bits_of x = Ieee.to_bits binary64 x
 
 -- minus zero, by its bits
-abbrev pub minusZero : Float → Bool
-minusZero x = eqb (toBits x) 0x8000_0000_0000_0000
+abbrev pub minus_zero : Float → Bool
+minus_zero x = eqb (bits_of x) 0x8000_0000_0000_0000
 
 -- every NaN pattern is NaN
-abbrev pub fromBits : ℕ → Float
-fromBits b = of_bits binary64 b
+abbrev pub from_bits : ℕ → Float
+from_bits b = of_bits binary64 b
 
 -- ---- whole numbers
 
 -- whole numbers of up to this size are floats exactly
-abbrev pub exactWhole : ℕ
-exactWhole = 2 ^ 53
+abbrev pub exact_whole : ℕ
+exact_whole = 2 ^ 53
 
 -- a whole number as a float: exact up to that size, by the law whole-exact
 abbrev pub from_int : ℤ → Float
@@ -87,9 +87,9 @@ unfolding div of_int of_bits
 half n = div binary64 (from_int (pos n)) two
 
 -- tick / 2
-abbrev pub halfTick : ℕ → Float
-halfTick tick = half tick
+abbrev pub half_tick : ℕ → Float
+half_tick tick = half tick
 
 -- tick × spread / 2, of a spread in ticks
-abbrev pub halfSpread : ℕ → ℕ → Float
-halfSpread tick spread = half (tick * spread)
+abbrev pub half_spread : ℕ → ℕ → Float
+half_spread tick spread = half (tick * spread)

@@ -2,11 +2,11 @@
 ghost use Rattle.std.specs.Prelude.{◌≡◌, true, ◌*◌, ◌≤◌, pos};
 ghost use Rattle.std.specs.Float.{binary64};
 ghost use Rattle.std.specs.Float.Ieee.{in_float};
-ghost use Rattle.floats.specs.Floats.{exactWhole, from_int, halfTick, halfSpread};
+ghost use Rattle.floats.specs.Floats.{exact_whole, from_int, half_tick, half_spread};
 
 // A whole number as a float, exactly.
 pub fn from_u64(n: u64) -> f64
-    requires { n ≤ exactWhole }
+    requires { n ≤ exact_whole }
     ensures { result ≡ from_int (pos n) }
 {
     n as f64
@@ -22,16 +22,16 @@ pub fn from_i64(n: i64) -> f64
 
 // Half a tick.
 pub fn half_tick(tick: u64) -> f64
-    requires { tick ≤ exactWhole }
-    ensures { result ≡ halfTick tick }
+    requires { tick ≤ exact_whole }
+    ensures { result ≡ half_tick tick }
 {
     from_u64(tick) / 2.0
 }
 
 // Half a spread of so many ticks.
 pub fn half_spread(tick_size: u64, spread_ticks: u64) -> f64
-    requires { tick_size * spread_ticks ≤ exactWhole }
-    ensures { result ≡ halfSpread tick_size spread_ticks }
+    requires { tick_size * spread_ticks ≤ exact_whole }
+    ensures { result ≡ half_spread tick_size spread_ticks }
 {
     from_u64(tick_size * spread_ticks) / 2.0
 }

@@ -1,4 +1,6 @@
 // Helpers on binary64, each total (document 01, "Forms to change": abs, max, clamp, total_cmp).
+#![tactic(auto)]
+
 pub mod inner;
 
 ghost use Rattle.std.specs.Prelude.{◌≡◌};
@@ -17,7 +19,7 @@ pub fn abs(x: f64) -> f64
 
 // Of two sizes, the second is as great or greater; NaN is above all and equal to any NaN.
 pub fn as_great(x: f64, y: f64) -> bool
-    ensures { result ≡ Floats.asGreat x y }
+    ensures { result ≡ Floats.as_great x y }
 {
     if y != y {
         return true;
@@ -39,7 +41,7 @@ pub fn max(x: f64, y: f64) -> f64
 }
 
 pub fn is_infinite(x: f64) -> bool
-    ensures { result ≡ Floats.isInfinite x }
+    ensures { result ≡ Floats.is_infinite x }
 {
     (x == 1.0 / 0.0) | (x == -1.0 / 0.0)
 }
@@ -65,7 +67,7 @@ pub fn clamp(x: f64) -> f64
 
 // Zero as plus zero.
 pub fn plus_zero(x: f64) -> f64
-    ensures { result ≡ Floats.plusZero x }
+    ensures { result ≡ Floats.plus_zero x }
 {
     if x == 0.0 {
         return 0.0;
@@ -75,7 +77,7 @@ pub fn plus_zero(x: f64) -> f64
 
 // The bits, any NaN's as one pattern: the machine's NaN may have any.
 pub fn to_bits(x: f64) -> u64
-    ensures { result ≡ Floats.toBits x }
+    ensures { result ≡ Floats.bits_of x }
 {
     if x != x {
         return 0x7ff8_0000_0000_0000;
@@ -85,7 +87,7 @@ pub fn to_bits(x: f64) -> u64
 
 // The float of any bits; every NaN pattern is NaN.
 pub fn from_bits(bits: u64) -> f64
-    ensures { result ≡ Floats.fromBits bits }
+    ensures { result ≡ Floats.from_bits bits }
 {
     if 0x7ff0_0000_0000_0000 < bits % 0x8000_0000_0000_0000 {
         return 0.0 / 0.0;

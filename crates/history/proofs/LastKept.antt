@@ -11,7 +11,7 @@ use Rattle.image_words.proofs.Words.{words-by}
 use Rattle.refusals.specs.Refusals.{refusal}
 use Rattle.refusals.specs.declared.Check.TheVariants as Check
 use Rattle.refusals.specs.declared.Refusal.TheVariants.{SliceLength}
-use Rattle.config.specs.Configuration.{newConfig, withMaxQuoteGapMs, configWords}
+use Rattle.config.specs.Configuration.{new_config, with_max_quote_gap_ms, config_words}
 use Rattle.config.specs.declared.MicroPriceConfig.{MicroPriceConfig}
 use Rattle.quotes.specs.declared.TopOfBook.{TopOfBook}
 use Rattle.tally.specs.Entries.{tables}
@@ -21,16 +21,16 @@ use Rattle.calibrator.specs.Record.{kinds}
 use Rattle.calibrator.specs.Observe.{fresh}
 use Rattle.calibrator.specs.declared.Previous.{Previous}
 use Rattle.calibrator.specs.declared.Previous.TheVariants.{Nothing, Quoted}
-use Rattle.image_layout.specs.Layout.{newest, header, headerIn, imageLength, image, previousWords}
-use Rattle.image.specs.Image.{endSave}
+use Rattle.image_layout.specs.Layout.{newest, header, header_in, image_length, image, previous_words}
+use Rattle.image.specs.Image.{end_save}
 use Rattle.image.specs.declared.Restored.TheVariants as Restored
-use Rattle.history.specs.Calls.{Call, quote, save, restore, observes, saves, restores, run, History, begins, newHistory, gains, historyMemory, newPast, OwnImages, ConfigWords}
-use Rattle.history.specs.Demand.{historyOf, Demand3}
+use Rattle.history.specs.Calls.{Call, quote, save, restore, observes, saves, restores, run, History, begins, new_history, gains, history_memory, new_past, OwnImages, ConfigWords}
+use Rattle.history.specs.Demand.{history_of, Demand3}
 use Rattle.history.proofs.Demand.{demand-3}
 
 -- tick 1, three buckets, one spread state, gap 60,000: an image has 328 bytes
 abbrev pub three-states : MicroPriceConfig
-three-states = withMaxQuoteGapMs (newConfig 1 3 1) 60000
+three-states = with_max_quote_gap_ms (new_config 1 3 1) 60000
 
 -- bid 100 and ask 101 at a time, of one size on both sides
 abbrev pub even-quote : ℕ → ℕ → TopOfBook
@@ -45,16 +45,16 @@ abbrev pub second-history : History
 second-history = record { start = (fresh three-states).counts; quotes = even-quote 0 6 ∷ even-quote 1 5 ∷ [] }
 
 abbrev pub image_of : History → List ℕ
-image_of H = image newest three-states (historyMemory three-states H)
+image_of H = image newest three-states (history_memory three-states H)
 
 abbrev pub empty-image : List ℕ
-empty-image = image_of (newHistory three-states)
+empty-image = image_of (new_history three-states)
 
 abbrev pub first-image : List ℕ
 first-image = image_of first-history
 
 abbrev pub empty-output : List ℕ
-empty-output = replicate (imageLength newest three-states) 0
+empty-output = replicate (image_length newest three-states) 0
 
 -- other memory for a restore, of the right lengths: a record and tables of sevens
 abbrev pub sevens : Memory Previous
@@ -100,57 +100,57 @@ pub histories-differ : first-history ≡ second-history → ⊥
 histories-differ e = omega (arith, ap (λ (H : History). sum (map (λ q. q.bid_size) H.quotes)) e)
 
 pub one-image : image_of first-history ≡ image_of second-history
-unfolding header headerIn
+unfolding header header_in
 one-image = refl
 
-pub second-is-back : historyOf three-states returning-calls ≡ second-history
-unfolding header headerIn
+pub second-is-back : history_of three-states returning-calls ≡ second-history
+unfolding header header_in
 second-is-back = refl
 
 -- what the operations answer; the third save writes what the second wrote
 pub answers-are : (run three-states (fresh three-states) returning-calls).answers ≡
-    (saves (endSave Check.Fine empty-image) ∷
+    (saves (end_save Check.Fine empty-image) ∷
     observes Check.Fine ∷
     observes Check.Fine ∷
-    saves (endSave Check.Fine first-image) ∷
+    saves (end_save Check.Fine first-image) ∷
     restores (Restored.Config three-states) ∷
     observes Check.Fine ∷
     observes Check.Fine ∷
-    saves (endSave Check.Fine first-image) ∷
-    saves (endSave (refusal 7) []) ∷
+    saves (end_save Check.Fine first-image) ∷
+    saves (end_save (refusal 7) []) ∷
     restores (Restored.Refused SliceLength) ∷
     restores (Restored.Config three-states) ∷
     [])
-unfolding header headerIn
+unfolding header header_in
 answers-are = refl
 
 -- ---- the hypotheses of demand 3 and of its restore-returns are met
 
 pub returning-words : ConfigWords three-states
-returning-words = words-by (configWords three-states) refl
+returning-words = words-by (config_words three-states) refl
 
-pub returning-own : OwnImages three-states (newPast three-states) returning-calls
-unfolding header headerIn
+pub returning-own : OwnImages three-states (new_past three-states) returning-calls
+unfolding header header_in
 returning-own =
-    let five = words-by (previousWords (Quoted (even-quote 0 5))) refl in
-    let six = words-by (previousWords (Quoted (even-quote 0 6))) refl in
-    let last = words-by (previousWords (Quoted (even-quote 1 5))) refl in
+    let five = words-by (previous_words (Quoted (even-quote 0 5))) refl in
+    let six = words-by (previous_words (Quoted (even-quote 0 6))) refl in
+    let last = words-by (previous_words (Quoted (even-quote 1 5))) refl in
     (tt, (five, (last, (tt, (tt, (six, (last, (tt, (tt, (tt, (tt, tt)))))))))))
 
 pub returning-demand : Demand3 three-states returning-calls
 returning-demand = demand-3 three-states refl returning-words returning-calls returning-own
 
-pub returned-to-save : historyOf three-states returning-calls ≡ historyOf three-states before-second-save
-unfolding header headerIn
+pub returned-to-save : history_of three-states returning-calls ≡ history_of three-states before-second-save
+unfolding header header_in
 returned-to-save = returning-demand.restore-returns before-second-save empty-output refused-calls first-image sevens refl refl refl refl refl
 
 -- ---- a history that begins at a memory with counts and a last quote
 
-pub begins-at-sevens : historyMemory three-states (begins sevens) ≡ sevens
+pub begins-at-sevens : history_memory three-states (begins sevens) ≡ sevens
 begins-at-sevens = refl
 
 -- a quote more makes a pair with that last quote, as in the history whose memory it was
 pub begun-goes-on :
-    historyMemory three-states (gains (begins (historyMemory three-states first-history)) (even-quote 2 5))
-    ≡ historyMemory three-states (gains first-history (even-quote 2 5))
+    history_memory three-states (gains (begins (history_memory three-states first-history)) (even-quote 2 5))
+    ≡ history_memory three-states (gains first-history (even-quote 2 5))
 begun-goes-on = refl

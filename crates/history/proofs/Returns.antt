@@ -9,64 +9,64 @@ use borrow.Author.Tests.{eq-eqb}
 use Rattle.basics.specs.Lists.{any, same_words}
 use Rattle.basics.proofs.Lists.{same_self}
 use Rattle.basics.proofs.Tests.{neither}
-use Rattle.refusals.specs.Refusals.{refuseIf}
+use Rattle.refusals.specs.Refusals.{refuse_if}
 use Rattle.refusals.specs.declared.Check.{Check}
 use Rattle.refusals.specs.declared.Check.TheVariants.{Fine, Refused}
 use Rattle.config.specs.Configuration.{states}
 use Rattle.config.specs.declared.MicroPriceConfig.{MicroPriceConfig}
 use Rattle.tally.specs.Rules.{Memory}
 use Rattle.calibrator.specs.declared.Previous.{Previous}
-use Rattle.image_layout.specs.Layout.{newest, imageLength, image}
-use Rattle.image.specs.Image.{restored, lentWrong}
-use Rattle.history.specs.Calls.{Call, quote, save, restore, History, gains, historyMemory, historyRefusal, Past, or_else, keptWith, returns, historyQuote, historySave, historyRestore, checkOutputLength, historyAct, historyRun}
+use Rattle.image_layout.specs.Layout.{newest, image_length, image}
+use Rattle.image.specs.Image.{restored, lent_wrong}
+use Rattle.history.specs.Calls.{Call, quote, save, restore, History, gains, history_memory, history_refusal, Past, or_else, kept_with, returns, history_quote, history_save, history_restore, check_output_length, history_act, history_run}
 use Rattle.history.specs.Demand.{wrote}
 
 pub history-run-append : (c : MicroPriceConfig) (before ks : List Call) (P : Past)
-    → (historyRun c P (before ++ ks)).past ≡ (historyRun c (historyRun c P before).past ks).past
+    → (history_run c P (before ++ ks)).past ≡ (history_run c (history_run c P before).past ks).past
 history-run-append c [] ks P = refl
-history-run-append c (k ∷ before) ks P = history-run-append c before ks (historyAct c P k).past
+history-run-append c (k ∷ before) ks P = history-run-append c before ks (history_act c P k).past
 
 module _ (c : MicroPriceConfig) (b : List ℕ) where
   -- b is kept, last with that history
   abbrev KeptLast : Past → History → Type 0
-  KeptLast P H = keptWith b P.kept ≡ some H
+  KeptLast P H = kept_with b P.kept ≡ some H
 
   -- a save that writes b keeps it with the history there
-  save-keeps : (P : Past) (out : List ℕ) → length out ≡ imageLength newest c → b ≡ image newest c (historyMemory c P.now)
-      → KeptLast (historyAct c P (save out)).past P.now
+  save-keeps : (P : Past) (out : List ℕ) → length out ≡ image_length newest c → b ≡ image newest c (history_memory c P.now)
+      → KeptLast (history_act c P (save out)).past P.now
   save-keeps P out long is =
-      ap (λ (t : Bool). keptWith b (historySave (refuseIf (not t) 7) P out (image newest c (historyMemory c P.now))).past.kept) (eq-eqb _ _ long)
-      ∙ ap (λ (x : List ℕ). or_else (same_words b x) P.now (keptWith b P.kept)) (sym is)
-      ∙ ap (λ (t : Bool). or_else t P.now (keptWith b P.kept)) (same_self b)
+      ap (λ (t : Bool). kept_with b (history_save (refuse_if (not t) 7) P out (image newest c (history_memory c P.now))).past.kept) (eq-eqb _ _ long)
+      ∙ ap (λ (x : List ℕ). or_else (same_words b x) P.now (kept_with b P.kept)) (sym is)
+      ∙ ap (λ (t : Bool). or_else t P.now (kept_with b P.kept)) (same_self b)
 
   -- a call that does not write b leaves it so
-  call-leaves : (P : Past) (H : History) → KeptLast P H → (k : Call) → wrote b (historyAct c P k).answer ≡ false → KeptLast (historyAct c P k).past H
-  call-leaves P H kept (quote q) other = go (historyRefusal c P.now q)
+  call-leaves : (P : Past) (H : History) → KeptLast P H → (k : Call) → wrote b (history_act c P k).answer ≡ false → KeptLast (history_act c P k).past H
+  call-leaves P H kept (quote q) other = go (history_refusal c P.now q)
     where
-      go : (k : Check) → KeptLast (historyQuote k P (gains P.now q)).past H
+      go : (k : Check) → KeptLast (history_quote k P (gains P.now q)).past H
       go Fine = kept
       go (Refused r) = kept
-  call-leaves P H kept (save out) other = go (checkOutputLength c out) other
+  call-leaves P H kept (save out) other = go (check_output_length c out) other
     where
       written : List ℕ
-      written = image newest c (historyMemory c P.now)
+      written = image newest c (history_memory c P.now)
 
-      go : (k : Check) → wrote b (historySave k P out written).answer ≡ false → KeptLast (historySave k P out written).past H
-      go Fine differs = ap (λ (t : Bool). or_else t P.now (keptWith b P.kept)) differs ∙ kept
+      go : (k : Check) → wrote b (history_save k P out written).answer ≡ false → KeptLast (history_save k P out written).past H
+      go Fine differs = ap (λ (t : Bool). or_else t P.now (kept_with b P.kept)) differs ∙ kept
       go (Refused r) differs = kept
-  call-leaves P H kept (restore d lent) other = go (lentWrong (states c) lent.counts.tables) (returns c P d)
+  call-leaves P H kept (restore d lent) other = go (lent_wrong (states c) lent.counts.tables) (returns c P d)
     where
-      go : (w : Bool) (o : Option History) → KeptLast (historyRestore c P (restored d lent).answer w o).past H
+      go : (w : Bool) (o : Option History) → KeptLast (history_restore c P (restored d lent).answer w o).past H
       go true o = kept
       go false none = kept
       go false (some G) = kept
 
-  calls-leave : (js : List Call) (P : Past) (H : History) → KeptLast P H → any (wrote b) (historyRun c P js).answers ≡ false
-      → KeptLast (historyRun c P js).past H
+  calls-leave : (js : List Call) (P : Past) (H : History) → KeptLast P H → any (wrote b) (history_run c P js).answers ≡ false
+      → KeptLast (history_run c P js).past H
   calls-leave [] P H kept others = kept
   calls-leave (k ∷ js) P H kept others =
-      let t = historyAct c P k in
-      let n = neither (wrote b t.answer) (any (wrote b) (historyRun c t.past js).answers) others in
+      let t = history_act c P k in
+      let n = neither (wrote b t.answer) (any (wrote b) (history_run c t.past js).answers) others in
       calls-leave js t.past H (call-leaves P H kept k n.0) n.1
 
   -- the history to bring back is the one that b is kept last with
@@ -74,17 +74,17 @@ module _ (c : MicroPriceConfig) (b : List ℕ) where
   kept-returns P H kept = kept
 
   -- a restore of b brings that history back
-  restore-brings : (P : Past) (H : History) → KeptLast P H → (lent : Memory Previous) → lentWrong (states c) lent.counts.tables ≡ false
-      → (historyAct c P (restore b lent)).past.now ≡ H
-  restore-brings P H kept lent sizes = λ i. (historyRestore c P (restored b lent).answer (sizes i) (kept-returns P H kept i)).past.now
+  restore-brings : (P : Past) (H : History) → KeptLast P H → (lent : Memory Previous) → lent_wrong (states c) lent.counts.tables ≡ false
+      → (history_act c P (restore b lent)).past.now ≡ H
+  restore-brings P H kept lent sizes = λ i. (history_restore c P (restored b lent).answer (sizes i) (kept-returns P H kept i)).past.now
 
   pub returns-to-save : (P : Past) (out : List ℕ) (js : List Call) (lent : Memory Previous)
-      → length out ≡ imageLength newest c
-      → b ≡ image newest c (historyMemory c P.now)
-      → any (wrote b) (historyRun c (historyAct c P (save out)).past js).answers ≡ false
-      → lentWrong (states c) lent.counts.tables ≡ false
-      → (historyRun c P (save out ∷ (js ++ (restore b lent ∷ [])))).past.now ≡ P.now
+      → length out ≡ image_length newest c
+      → b ≡ image newest c (history_memory c P.now)
+      → any (wrote b) (history_run c (history_act c P (save out)).past js).answers ≡ false
+      → lent_wrong (states c) lent.counts.tables ≡ false
+      → (history_run c P (save out ∷ (js ++ (restore b lent ∷ [])))).past.now ≡ P.now
   returns-to-save P out js lent long is others sizes =
-      let S = (historyAct c P (save out)).past in
+      let S = (history_act c P (save out)).past in
       ap (λ (x : Past). x.now) (history-run-append c js (restore b lent ∷ []) S)
-      ∙ restore-brings (historyRun c S js).past P.now (calls-leave js S P.now (save-keeps P out long is) others) lent sizes
+      ∙ restore-brings (history_run c S js).past P.now (calls-leave js S P.now (save-keeps P out long is) others) lent sizes

@@ -2,22 +2,22 @@
 use Rattle.std.specs.Prelude.{ℕ, Bool, true, false, not, ◌&&◌, ◌||◌, List, [], ◌∷◌, ◌++◌, T, eqb, length}
 use Rattle.std.proofs.Math.Option.{Option, none, some}
 use Rattle.basics.specs.Lists.{same_words}
-use Rattle.refusals.specs.Refusals.{refuseIf, first_of}
+use Rattle.refusals.specs.Refusals.{refuse_if, first_of}
 use Rattle.refusals.specs.declared.Check.{Check}
 use Rattle.refusals.specs.declared.Check.TheVariants.{Fine, Refused}
-use Rattle.config.specs.Configuration.{states, configWords}
+use Rattle.config.specs.Configuration.{states, config_words}
 use Rattle.config.specs.declared.MicroPriceConfig.{MicroPriceConfig}
-use Rattle.quotes.specs.Quotes.{checkQuote}
+use Rattle.quotes.specs.Quotes.{check_quote}
 use Rattle.quotes.specs.declared.TopOfBook.{TopOfBook}
 use Rattle.tally.specs.Events.{Counts}
-use Rattle.tally.specs.Limits.{overLimit}
-use Rattle.tally.specs.Rules.{Memory, memoryOf}
+use Rattle.tally.specs.Limits.{over_limit}
+use Rattle.tally.specs.Rules.{Memory, memory_of}
 use Rattle.calibrator.specs.Observe.{rule, fresh, earlier, observed}
 use Rattle.calibrator.specs.declared.Previous.{Previous}
 use Rattle.calibrator.specs.declared.Previous.TheVariants.{Nothing, Quoted}
 use Rattle.image_words.specs.Words.{AllWords}
-use Rattle.image_layout.specs.Layout.{newest, imageLength, image, previousWords}
-use Rattle.image.specs.Image.{Saved, saved, savedUnless, restored, lentWrong}
+use Rattle.image_layout.specs.Layout.{newest, image_length, image, previous_words}
+use Rattle.image.specs.Image.{Saved, saved, saved_unless, restored, lent_wrong}
 use Rattle.image.specs.declared.Restored.{Restored}
 use Rattle.image.specs.declared.Restored.TheVariants as Restored
 
@@ -43,16 +43,16 @@ abbrev pub acted : Answer → Memory Previous → Acted
 acted a m = record { answer = a; left = m }
 
 -- memory that a restore fills is the calibrator's from then on
-abbrev pub afterRestore : Restored → Memory Previous → Memory Previous → Memory Previous
-afterRestore (Restored.Config c) m filled = filled
-afterRestore (Restored.Refused r) m filled = m
+abbrev pub after_restore : Restored → Memory Previous → Memory Previous → Memory Previous
+after_restore (Restored.Config c) m filled = filled
+after_restore (Restored.Refused r) m filled = m
 
 abbrev pub act : MicroPriceConfig → Memory Previous → Call → Acted
 act c m (quote q) = let o = observed c m q in acted (observes o.answer) o.left
 act c m (save out) = acted (saves (saved c m out)) m
 act c m (restore b lent) =
     let t = restored b lent in
-    acted (restores t.answer) (afterRestore t.answer m t.left)
+    acted (restores t.answer) (after_restore t.answer m t.left)
 
 pub record Ran : Type 0 where
   pub answers : List Answer
@@ -73,30 +73,30 @@ pub record History : Type 0 where
   pub quotes : List TopOfBook
 
 -- none, or the one quote
-abbrev pub previousQuotes : Previous → List TopOfBook
-previousQuotes Nothing = []
-previousQuotes (Quoted q) = q ∷ []
+abbrev pub previous_quotes : Previous → List TopOfBook
+previous_quotes Nothing = []
+previous_quotes (Quoted q) = q ∷ []
 
 -- the history that begins at a memory: it starts from the memory's counts, and the last quote, if any, is its first
 abbrev pub begins : Memory Previous → History
-begins m = record { start = m.counts; quotes = previousQuotes m.last }
+begins m = record { start = m.counts; quotes = previous_quotes m.last }
 
 -- empty at new
-abbrev pub newHistory : MicroPriceConfig → History
-newHistory c = begins (fresh c)
+abbrev pub new_history : MicroPriceConfig → History
+new_history c = begins (fresh c)
 
 abbrev pub gains : History → TopOfBook → History
 gains H q = record { start = H.start; quotes = H.quotes ++ q ∷ [] }
 
 -- its last quote, counters and tables
-abbrev pub historyMemory : MicroPriceConfig → History → Memory Previous
-historyMemory c H = memoryOf (rule c) Nothing H.start H.quotes
+abbrev pub history_memory : MicroPriceConfig → History → Memory Previous
+history_memory c H = memory_of (rule c) Nothing H.start H.quotes
 
 -- 2, 3, 4, 5 (against its last), 6 (the history with the quote passes a limit)
-abbrev pub historyRefusal : MicroPriceConfig → History → TopOfBook → Check
-historyRefusal c H q =
-    first_of (first_of (checkQuote c q) (refuseIf (earlier (historyMemory c H).last q) 5))
-    (refuseIf (overLimit (historyMemory c (gains H q)).counts) 6)
+abbrev pub history_refusal : MicroPriceConfig → History → TopOfBook → Check
+history_refusal c H q =
+    first_of (first_of (check_quote c q) (refuse_if (earlier (history_memory c H).last q) 5))
+    (refuse_if (over_limit (history_memory c (gains H q)).counts) 6)
 
 pub record Kept : Type 0 where
   pub bytes : List ℕ
@@ -107,8 +107,8 @@ pub record Past : Type 0 where
   pub now : History
   pub kept : List Kept
 
-abbrev pub newPast : MicroPriceConfig → Past
-newPast c = record { now = newHistory c; kept = [] }
+abbrev pub new_past : MicroPriceConfig → Past
+new_past c = record { now = new_history c; kept = [] }
 
 abbrev pub becomes : Past → History → Past
 becomes P H = record { now = H; kept = P.kept }
@@ -121,54 +121,54 @@ or_else true H o = some H
 or_else false H o = o
 
 -- the history last kept with that image
-abbrev pub keptWith : List ℕ → List Kept → Option History
-keptWith b [] = none
-keptWith b (k ∷ ks) = or_else (same_words b k.bytes) k.history (keptWith b ks)
+abbrev pub kept_with : List ℕ → List Kept → Option History
+kept_with b [] = none
+kept_with b (k ∷ ks) = or_else (same_words b k.bytes) k.history (kept_with b ks)
 
 -- the history, if any, that a restore of those bytes brings back: the one last kept with them
 abbrev pub returns : MicroPriceConfig → Past → List ℕ → Option History
-returns c P b = keptWith b P.kept
+returns c P b = kept_with b P.kept
 
 pub record HistoryActed : Type 0 where
   pub answer : Answer
   pub past : Past
 
-abbrev pub historyActed : Answer → Past → HistoryActed
-historyActed a P = record { answer = a; past = P }
+abbrev pub history_acted : Answer → Past → HistoryActed
+history_acted a P = record { answer = a; past = P }
 
-abbrev pub historyQuote : Check → Past → History → HistoryActed
-historyQuote Fine P H = historyActed (observes Fine) (becomes P H)
-historyQuote (Refused r) P H = historyActed (observes (Refused r)) P
+abbrev pub history_quote : Check → Past → History → HistoryActed
+history_quote Fine P H = history_acted (observes Fine) (becomes P H)
+history_quote (Refused r) P H = history_acted (observes (Refused r)) P
 
 -- 7, or the history's image is written and kept
-abbrev pub historySave : Check → Past → List ℕ → List ℕ → HistoryActed
-historySave Fine P out b = historyActed (saves (savedUnless Fine out b)) (keeps P b)
-historySave (Refused r) P out b = historyActed (saves (savedUnless (Refused r) out b)) P
+abbrev pub history_save : Check → Past → List ℕ → List ℕ → HistoryActed
+history_save Fine P out b = history_acted (saves (saved_unless Fine out b)) (keeps P b)
+history_save (Refused r) P out b = history_acted (saves (saved_unless (Refused r) out b)) P
 
 -- a kept image, into memory of the right lengths, brings its history back; another restore is refused
-abbrev pub historyRestore : MicroPriceConfig → Past → Restored → Bool → Option History → HistoryActed
-historyRestore c P a true o = historyActed (restores a) P
-historyRestore c P a false none = historyActed (restores a) P
-historyRestore c P a false (some H) = historyActed (restores (Restored.Config c)) (becomes P H)
+abbrev pub history_restore : MicroPriceConfig → Past → Restored → Bool → Option History → HistoryActed
+history_restore c P a true o = history_acted (restores a) P
+history_restore c P a false none = history_acted (restores a) P
+history_restore c P a false (some H) = history_acted (restores (Restored.Config c)) (becomes P H)
 
-abbrev pub checkOutputLength : MicroPriceConfig → List ℕ → Check
-checkOutputLength c out = refuseIf (not (eqb (length out) (imageLength newest c))) 7
+abbrev pub check_output_length : MicroPriceConfig → List ℕ → Check
+check_output_length c out = refuse_if (not (eqb (length out) (image_length newest c))) 7
 
-abbrev pub historyAct : MicroPriceConfig → Past → Call → HistoryActed
-historyAct c P (quote q) = historyQuote (historyRefusal c P.now q) P (gains P.now q)
-historyAct c P (save out) = historySave (checkOutputLength c out) P out (image newest c (historyMemory c P.now))
-historyAct c P (restore b lent) =
-    historyRestore c P (restored b lent).answer (lentWrong (states c) lent.counts.tables) (returns c P b)
+abbrev pub history_act : MicroPriceConfig → Past → Call → HistoryActed
+history_act c P (quote q) = history_quote (history_refusal c P.now q) P (gains P.now q)
+history_act c P (save out) = history_save (check_output_length c out) P out (image newest c (history_memory c P.now))
+history_act c P (restore b lent) =
+    history_restore c P (restored b lent).answer (lent_wrong (states c) lent.counts.tables) (returns c P b)
 
 pub record HistoryRan : Type 0 where
   pub answers : List Answer
   pub past : Past
 
-abbrev pub historyRun : MicroPriceConfig → Past → List Call → HistoryRan
-historyRun c P [] = record { answers = []; past = P }
-historyRun c P (k ∷ ks) =
-    let t = historyAct c P k in
-    let s = historyRun c t.past ks in
+abbrev pub history_run : MicroPriceConfig → Past → List Call → HistoryRan
+history_run c P [] = record { answers = []; past = P }
+history_run c P (k ∷ ks) =
+    let t = history_act c P k in
+    let s = history_run c t.past ks in
     record { answers = t.answer ∷ s.answers; past = s.past }
 
 -- ---- the proviso
@@ -183,15 +183,15 @@ is_refused (Restored.Refused r) = true
 
 -- each restore is of a kept image into memory of the right lengths, or is one that restore refuses; a quote's words are words
 abbrev pub Proper : MicroPriceConfig → Past → Call → Type 0
-Proper c P (quote q) = AllWords (previousWords (Quoted q))
+Proper c P (quote q) = AllWords (previous_words (Quoted q))
 Proper c P (save out) = Unit {0}
 Proper c P (restore b lent) =
-    T ((not (lentWrong (states c) lent.counts.tables) && is_some (returns c P b)) || is_refused (restored b lent).answer)
+    T ((not (lent_wrong (states c) lent.counts.tables) && is_some (returns c P b)) || is_refused (restored b lent).answer)
 
 abbrev pub OwnImages : MicroPriceConfig → Past → List Call → Type 0
 OwnImages c P [] = Unit {0}
-OwnImages c P (k ∷ ks) = Proper c P k × OwnImages c (historyAct c P k).past ks
+OwnImages c P (k ∷ ks) = Proper c P k × OwnImages c (history_act c P k).past ks
 
 -- what the types of a configuration's words give
 abbrev pub ConfigWords : MicroPriceConfig → Type 0
-ConfigWords c = AllWords (configWords c)
+ConfigWords c = AllWords (config_words c)

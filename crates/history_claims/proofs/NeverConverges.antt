@@ -4,11 +4,11 @@ use mathlib.Core.Path.{◌≡◌}
 use mathlib.Core.List.{List, [], ◌∷◌}
 use lib.ListN.{length, replicate}
 use lib.Ieee.{Float}
-use Rattle.floats.specs.Floats.{posZero}
+use Rattle.floats.specs.Floats.{pos_zero}
 use Rattle.refusals.specs.Refusals.{refusal}
 use Rattle.history.specs.Calls.{Call, quote}
 use Rattle.history.specs.Demand.{left}
-use Rattle.fit.specs.Fit.{endFit, fitCounts}
+use Rattle.fit.specs.Fit.{end_fit, fit_counts}
 use Rattle.fit.proofs.NeverConverges.{config18, fit-refused-18}
 
 -- sizes 9 and 1
@@ -20,5 +20,5 @@ abbrev pub calls18 : List Call
 calls18 = quote18 0 100 101 ∷ quote18 1 101 102 ∷ []
 
 pub run-18 : (model : List ℕ) (scratch : List Float) → length scratch ≡ 132 → length model ≡ 42
-    → fitCounts config18 (left config18 calls18) model scratch ≡ endFit (refusal 18) model (replicate (length scratch) posZero)
+    → fit_counts config18 (left config18 calls18) model scratch ≡ end_fit (refusal 18) model (replicate (length scratch) pos_zero)
 run-18 = fit-refused-18 (left config18 calls18).last

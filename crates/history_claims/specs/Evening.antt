@@ -6,32 +6,32 @@ use Rattle.refusals.specs.declared.Check.TheVariants as Check
 use Rattle.refusals.specs.declared.Refusal.{Refusal}
 use Rattle.config.specs.declared.MicroPriceConfig.{MicroPriceConfig}
 use Rattle.quotes.specs.declared.TopOfBook.{TopOfBook}
-use Rattle.tally.specs.Limits.{overLimit}
+use Rattle.tally.specs.Limits.{over_limit}
 use Rattle.tally.specs.Rules.{Memory}
 use Rattle.calibrator.specs.Observe.{fresh}
 use Rattle.calibrator.specs.declared.Previous.{Previous}
-use Rattle.recording.specs.Recording.{quotesOf, filter}
+use Rattle.recording.specs.Recording.{quotes_of, filter}
 use Rattle.recording.specs.Window.{inside}
 use Rattle.recording.specs.Observe.{unusable, usable}
-use Rattle.history.specs.Calls.{Call, quote, History, gains, historyMemory, historyRefusal}
-use Rattle.history.specs.Demand.{left, historyOf}
-use Rattle.fit.specs.Fit.{endFit, fitCounts}
-use Rattle.evening.specs.Evening.{EveningOutcome, endEvening}
+use Rattle.history.specs.Calls.{Call, quote, History, gains, history_memory, history_refusal}
+use Rattle.history.specs.Demand.{left, history_of}
+use Rattle.fit.specs.Fit.{end_fit, fit_counts}
+use Rattle.evening.specs.Evening.{EveningOutcome, end_evening}
 use Rattle.evening.specs.declared.Counted.{Counted}
 use Rattle.evening.specs.declared.Evening.TheVariants.{Fitted, Refused}
 use Rattle.history_claims.specs.Models.{Model, Demand3Whole}
 
 -- the recording's quotes inside the window
-abbrev pub windowQuotes : List ℕ → ℕ → ℕ → List TopOfBook
-windowQuotes w start end = filter (inside start end) (quotesOf w)
+abbrev pub window_quotes : List ℕ → ℕ → ℕ → List TopOfBook
+window_quotes w start end = filter (inside start end) (quotes_of w)
 
 -- each given to the calibrator
 abbrev pub calls_of : List TopOfBook → List Call
 calls_of qs = map quote qs
 
 -- the quotes that 3 and 4 do not refuse, from new on
-abbrev pub acceptedOf : MicroPriceConfig → List TopOfBook → History
-acceptedOf c qs = record { start = (fresh c).counts; quotes = filter (usable c) qs }
+abbrev pub accepted_of : MicroPriceConfig → List TopOfBook → History
+accepted_of c qs = record { start = (fresh c).counts; quotes = filter (usable c) qs }
 
 -- its number is one of these
 abbrev pub one_of : List ℕ → Refusal → Bool
@@ -40,16 +40,16 @@ one_of ks r = any (eqb (number_of r)) ks
 -- an evening with the quotes qs in its window, the model table t and scratch l, that ends in o and answers d: a fit's answer and the number of invalid quotes
 pub record FittedEvening (c : MicroPriceConfig) (qs : List TopOfBook) (t : List ℕ) (l : List Float) (o : EveningOutcome) (d : Counted) : Type 0 where
   -- the history of the calls has the quotes that 3 and 4 do not refuse, all of them and in their order, and starts at new's zeros
-  pub history-is : historyOf c (calls_of qs) ≡ acceptedOf c qs
+  pub history-is : history_of c (calls_of qs) ≡ accepted_of c qs
   -- the record and tables are the history's, which are those that the calls leave
-  pub memory-is : o.left ≡ historyMemory c (historyOf c (calls_of qs))
+  pub memory-is : o.left ≡ history_memory c (history_of c (calls_of qs))
   pub left_is : o.left ≡ left c (calls_of qs)
   -- demand 3 of those calls, whole
   pub demand : Demand3Whole c (calls_of qs)
   -- the invalid quotes are the others
   pub invalid-are : d.invalid ≡ count (unusable c) qs
   -- the answer, the model table and scratch are those of a fit of the history
-  pub fit_is : endFit d.answer o.model o.scratch ≡ fitCounts c (historyMemory c (historyOf c (calls_of qs))) t l
+  pub fit_is : end_fit d.answer o.model o.scratch ≡ fit_counts c (history_memory c (history_of c (calls_of qs))) t l
   -- a refusal of that fit is one of 16 to 19; where nothing is refused the table is a model
   pub fit-numbers : (r : Refusal) → d.answer ≡ Check.Refused r → (16 ≤ number_of r) × (number_of r ≤ 19)
   pub model : d.answer ≡ Check.Fine → Model c o.model
@@ -60,19 +60,19 @@ pub record StoppedAt (c : MicroPriceConfig) (qs : List TopOfBook) (r : Refusal) 
   pub here : TopOfBook
   pub later : List TopOfBook
   pub quotes-are : qs ≡ earlier ++ here ∷ later
-  pub history-is : historyOf c (calls_of earlier) ≡ acceptedOf c earlier
-  pub refused : historyRefusal c (acceptedOf c earlier) here ≡ Check.Refused r
+  pub history-is : history_of c (calls_of earlier) ≡ accepted_of c earlier
+  pub refused : history_refusal c (accepted_of c earlier) here ≡ Check.Refused r
   -- 6: with it the history passes a limit
-  pub limit-passed : number_of r ≡ 6 → overLimit (historyMemory c (gains (acceptedOf c earlier) here)).counts ≡ true
+  pub limit-passed : number_of r ≡ 6 → over_limit (history_memory c (gains (accepted_of c earlier) here)).counts ≡ true
 
 -- such an evening, with m in the record and tables before it, that ends in o and is refused by r before the fit
 pub record RefusedEvening (c : MicroPriceConfig) (m : Memory Previous) (qs : List TopOfBook) (t : List ℕ) (l : List Float) (o : EveningOutcome)
     (r : Refusal) : Type 0 where
   pub number : one_of (7 ∷ 14 ∷ 15 ∷ 1 ∷ 2 ∷ 6 ∷ []) r ≡ true
   -- 7, 14, 15, 1: no lent memory is changed
-  pub unchanged : one_of (7 ∷ 14 ∷ 15 ∷ 1 ∷ []) r ≡ true → o ≡ endEvening (Refused r) m t l
+  pub unchanged : one_of (7 ∷ 14 ∷ 15 ∷ 1 ∷ []) r ≡ true → o ≡ end_evening (Refused r) m t l
   -- 2, 6: at a quote, with count tables and counters zero and no last quote, and the other slices unchanged
-  pub stopped : one_of (2 ∷ 6 ∷ []) r ≡ true → (o ≡ endEvening (Refused r) (fresh c) t l) × StoppedAt c qs r
+  pub stopped : one_of (2 ∷ 6 ∷ []) r ≡ true → (o ≡ end_evening (Refused r) (fresh c) t l) × StoppedAt c qs r
 
 -- an evening that ends in o
 pub record EveningHistory (c : MicroPriceConfig) (m : Memory Previous) (qs : List TopOfBook) (t : List ℕ) (l : List Float) (o : EveningOutcome) : Type 0 where

@@ -6,10 +6,10 @@ use Rattle.calibrator.specs.declared.Previous.{Previous}
 use Rattle.image.specs.declared.Restored.TheVariants as Restored
 use Rattle.history.specs.Calls.{Call, act}
 use Rattle.history.specs.Demand.{left}
-use Rattle.history_replay.specs.Replay.{isLeftOut, otherConfiguration, answerNumber}
+use Rattle.history_replay.specs.Replay.{is_left_out, other_configuration, answer_number}
 
 -- what inner functions say of one call on the memory m: it ends with the number n and leaves the memory o
 abbrev pub CallEnds : MicroPriceConfig → Memory Previous → Call → ℕ → Memory Previous → Type 0
 CallEnds c m l n o =
-    let out = isLeftOut c l in
-    (n ≡ cond out otherConfiguration (answerNumber (act c m l).answer)) × (o ≡ cond out m (act c m l).left)
+    let out = is_left_out c l in
+    (n ≡ cond out other_configuration (answer_number (act c m l).answer)) × (o ≡ cond out m (act c m l).left)

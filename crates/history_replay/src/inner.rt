@@ -4,7 +4,7 @@ ghost use Rattle.basics.specs.Loan.{given, final};
 ghost use Rattle.tally.specs.Entries.{tables};
 ghost use Rattle.calibrator.specs.Record.{came, remains};
 ghost use Rattle.history.specs.Calls.{quote, restore, restores};
-ghost use Rattle.history_replay.specs.Replay.{callQuote, isCall, wellCoded, siteCame, siteRemains, is_foreign, answerNumber, steppedTo, stepped, Promised, replay as replays};
+ghost use Rattle.history_replay.specs.Replay.{call_quote, is_call, well_coded, site_came, site_remains, is_foreign, answer_number, stepped_to, stepped, Promised, replay as replays};
 ghost use Rattle.history_replay.specs.Inner.{CallEnds};
 
 use super::{ReplayDone, Replayed};
@@ -52,7 +52,7 @@ fn is_foreign(
 
 fn is_call(calls: &[u64], k: usize, room: usize) -> bool
     requires { 6 * k + 6 ≤ length calls.now }
-    ensures { result ≡ isCall room (given calls) k }
+    ensures { result ≡ is_call room (given calls) k }
 {
     let at = 6 * k;
     let kind = calls[at];
@@ -71,7 +71,7 @@ fn is_call(calls: &[u64], k: usize, room: usize) -> bool
 }
 
 fn is_well_coded(calls: &[u64], room: usize, answers: usize) -> bool
-    ensures { result ≡ wellCoded room answers (given calls) }
+    ensures { result ≡ well_coded room answers (given calls) }
 {
     if calls.len() % 6 != 0 {
         return false;
@@ -91,7 +91,7 @@ fn is_well_coded(calls: &[u64], room: usize, answers: usize) -> bool
 
 fn quote_at(calls: &[u64], k: usize) -> TopOfBook
     requires { 6 * k + 6 ≤ length calls.now }
-    ensures { result ≡ callQuote (given calls) k }
+    ensures { result ≡ call_quote (given calls) k }
 {
     let at = 6 * k;
     TopOfBook {
@@ -126,7 +126,7 @@ fn replay_quote(
 
 // The number of what a restore answers.
 fn restored_number(a: Restored) -> u64
-    ensures { result ≡ answerNumber (restores a) }
+    ensures { result ≡ answer_number (restores a) }
 {
     match a {
         Restored::Config(_) => 0,
@@ -171,8 +171,8 @@ fn replay_call(
     k: usize,
     room: &mut [u8],
 ) -> CallDone
-    requires { (6 * k + 6 ≤ length calls.now) × (isCall (length room.old) calls.now k ≡ true) }
-    ensures { steppedTo result.answer (siteRemains result.next stay moved move_half_ticks room) ≡ stepped config (given calls) k (siteCame rec stay moved move_half_ticks room) }
+    requires { (6 * k + 6 ≤ length calls.now) × (is_call (length room.old) calls.now k ≡ true) }
+    ensures { stepped_to result.answer (site_remains result.next stay moved move_half_ticks room) ≡ stepped config (given calls) k (site_came rec stay moved move_half_ticks room) }
 {
     let at = 6 * k;
     let kind = calls[at];
@@ -212,8 +212,8 @@ pub fn replay(
     room: &mut [u8],
     answers: &mut [u64],
 ) -> ReplayDone
-    ensures { Promised config (siteCame rec stay moved move_half_ticks room) (given calls) (given answers)
-        (replays result.answer (final answers) (siteRemains result.next stay moved move_half_ticks room)) }
+    ensures { Promised config (site_came rec stay moved move_half_ticks room) (given calls) (given answers)
+        (replays result.answer (final answers) (site_remains result.next stay moved move_half_ticks room)) }
 {
     if !is_well_coded(calls, room.len(), answers.len()) {
         return ReplayDone {

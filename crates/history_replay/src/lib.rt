@@ -1,11 +1,13 @@
 // The replay of a list of quotes, saves and restores (document 01, "The history").
+#![tactic(auto)]
+
 use calibrator::Record;
 use config::MicroPriceConfig;
 
 pub mod inner;
 
 ghost use Rattle.basics.specs.Loan.{given, final};
-ghost use Rattle.history_replay.specs.Replay.{siteCame, siteRemains, Promised, replay as replays};
+ghost use Rattle.history_replay.specs.Replay.{site_came, site_remains, Promised, replay as replays};
 
 // What a replay answers. A bad encoding changes nothing.
 #[derive(Drop)]
@@ -33,8 +35,8 @@ pub fn replay(
     room: &mut [u8],
     answers: &mut [u64],
 ) -> Replayed
-    ensures { Promised config (siteCame (given rec) stay moved move_half_ticks room) (given calls) (given answers)
-        (replays result (final answers) (siteRemains (final rec) stay moved move_half_ticks room)) }
+    ensures { Promised config (site_came (given rec) stay moved move_half_ticks room) (given calls) (given answers)
+        (replays result (final answers) (site_remains (final rec) stay moved move_half_ticks room)) }
 {
     let done = inner::replay(
         *rec,

@@ -13,22 +13,22 @@ use Rattle.basics.specs.Lists.{same_words}
 use Rattle.basics.proofs.Lists.{same-equal}
 use Rattle.basics.proofs.Tests.{zero-not-one, both}
 use Rattle.image_words.specs.Words.{value, words_of, untwos}
-use Rattle.refusals.specs.Refusals.{refuseIf, first_of}
+use Rattle.refusals.specs.Refusals.{refuse_if, first_of}
 use Rattle.refusals.specs.declared.Check.TheVariants.{Fine}
 use Rattle.refusals.proofs.Refusals.{if-fine, first_fine}
-use Rattle.config.specs.Configuration.{states, valid, checkConfig}
+use Rattle.config.specs.Configuration.{states, valid, check_config}
 use Rattle.config.specs.Inner.{Valid}
 use Rattle.config.specs.declared.MicroPriceConfig.{MicroPriceConfig}
 use Rattle.config.proofs.Known.{valid-known}
 use Rattle.tally.specs.Entries.{Tables, tables}
 use Rattle.tally.specs.Rules.{Memory}
-use Rattle.count_check.specs.Mirrors.{checkMirrored}
-use Rattle.count_check.specs.Inner.{tablesIn, HasTables}
-use Rattle.calibrator.specs.Observe.{wrongLengths, checkMemory, broken}
+use Rattle.count_check.specs.Mirrors.{check_mirrored}
+use Rattle.count_check.specs.Inner.{tables_in, HasTables}
+use Rattle.calibrator.specs.Observe.{wrong_lengths, check_memory, broken}
 use Rattle.calibrator.specs.declared.Previous.{Previous}
 use Rattle.calibrator.proofs.Lengths.{tables-known, lengths-known}
-use Rattle.image_layout.specs.Layout.{oldest, newest, isRead, headerLength, cells, imageLength, header, formIn, configIn, previousIn, tablesFrom, memoryIn, headerIn, laidOut}
-use Rattle.image.specs.Image.{saveRefusal, tooShort, lentWrong, heldRefusal, formRefusal, restoreRefusal}
+use Rattle.image_layout.specs.Layout.{oldest, newest, is_read, header_length, cells, image_length, header, form_in, config_in, previous_in, tables_from, memory_in, header_in, laid_out}
+use Rattle.image.specs.Image.{save_refusal, too_short, lent_wrong, held_refusal, form_refusal, restore_refusal}
 use Rattle.image.specs.Inner.{Readable}
 
 -- ---- save
@@ -36,26 +36,26 @@ use Rattle.image.specs.Inner.{Readable}
 pub record Savable (c : MicroPriceConfig) (m : Memory Previous) (long : ℕ) : Type 0 where
   pub valid-is : valid c ≡ true
   pub conf : Valid c
-  pub enough : checkMemory c m ≡ Fine
-  pub sizes : wrongLengths (states c) (length m.counts.tables.stay) (length m.counts.tables.moved) (length m.counts.tables.totals) ≡ false
-  pub long-is : long ≡ imageLength newest c
+  pub enough : check_memory c m ≡ Fine
+  pub sizes : wrong_lengths (states c) (length m.counts.tables.stay) (length m.counts.tables.moved) (length m.counts.tables.totals) ≡ false
+  pub long-is : long ≡ image_length newest c
   pub sound : broken c m.last ≡ false
-  pub mirrored : checkMirrored c m.counts ≡ Fine
+  pub mirrored : check_mirrored c m.counts ≡ Fine
 
-pub save-known : (c : MicroPriceConfig) (m : Memory Previous) (long : ℕ) → saveRefusal c m long ≡ Fine → Savable c m long
+pub save-known : (c : MicroPriceConfig) (m : Memory Previous) (long : ℕ) → save_refusal c m long ≡ Fine → Savable c m long
 save-known c m long e =
-    let last = first_of (refuseIf (broken c m.last) 8) (checkMirrored c m.counts) in
-    let a = first_fine (checkMemory c m) (first_of (refuseIf (not (eqb long (imageLength newest c))) 7) last) e in
-    let b = first_fine (refuseIf (not (eqb long (imageLength newest c))) 7) last a.1 in
-    let d = first_fine (refuseIf (broken c m.last) 8) (checkMirrored c m.counts) b.1 in
+    let last = first_of (refuse_if (broken c m.last) 8) (check_mirrored c m.counts) in
+    let a = first_fine (check_memory c m) (first_of (refuse_if (not (eqb long (image_length newest c))) 7) last) e in
+    let b = first_fine (refuse_if (not (eqb long (image_length newest c))) 7) last a.1 in
+    let d = first_fine (refuse_if (broken c m.last) 8) (check_mirrored c m.counts) b.1 in
     let r = tables-known c (length m.counts.tables.stay) (length m.counts.tables.moved) (length m.counts.tables.totals) a.0 in
-    let w = wrongLengths (states c) (length m.counts.tables.stay) (length m.counts.tables.moved) (length m.counts.tables.totals) in
+    let w = wrong_lengths (states c) (length m.counts.tables.stay) (length m.counts.tables.moved) (length m.counts.tables.totals) in
     record {
-      valid-is = not-false (valid c) (if-fine (not (valid c)) 1 refl (first_fine (checkConfig c) (refuseIf w 7) a.0).0);
+      valid-is = not-false (valid c) (if-fine (not (valid c)) 1 refl (first_fine (check_config c) (refuse_if w 7) a.0).0);
       conf = r.0;
       enough = a.0;
       sizes = r.1;
-      long-is = eqb-true long (imageLength newest c) (not-false _ (if-fine _ 7 refl b.0));
+      long-is = eqb-true long (image_length newest c) (not-false _ (if-fine _ 7 refl b.0));
       sound = if-fine _ 8 refl d.0;
       mirrored = d.1;
     }
@@ -63,83 +63,83 @@ save-known c m long e =
 -- ---- restore
 
 -- restore reads no other form than the one that save writes
-pub read-newest : (form : ℕ) → isRead form ≡ true → form ≡ newest
+pub read-newest : (form : ℕ) → is_read form ≡ true → form ≡ newest
 read-newest form e = eqb-true form newest e
 
 -- an image that is laid out is of a form that is read, has the header of what it holds, and its length
-module _ (form : ℕ) (b : List ℕ) (e : laidOut form b ≡ true) where
+module _ (form : ℕ) (b : List ℕ) (e : laid_out form b ≡ true) where
   abbrev words-test : Bool
-  words-test = same_words (headerIn form b) (header form (configIn form b) (previousIn b) (memoryIn form b).counts)
+  words-test = same_words (header_in form b) (header form (config_in form b) (previous_in b) (memory_in form b).counts)
 
   abbrev length-test : Bool
-  length-test = eqb (length b) (imageLength form (configIn form b))
+  length-test = eqb (length b) (image_length form (config_in form b))
 
-  pub laid-out-read : isRead form ≡ true
-  laid-out-read = (both (isRead form) (words-test && length-test) e).0
+  pub laid-out-read : is_read form ≡ true
+  laid-out-read = (both (is_read form) (words-test && length-test) e).0
 
-  pub laid-out-header : headerIn form b ≡ header form (configIn form b) (previousIn b) (memoryIn form b).counts
-  laid-out-header = same-equal _ _ (both words-test length-test (both (isRead form) (words-test && length-test) e).1).0
+  pub laid-out-header : header_in form b ≡ header form (config_in form b) (previous_in b) (memory_in form b).counts
+  laid-out-header = same-equal _ _ (both words-test length-test (both (is_read form) (words-test && length-test) e).1).0
 
-  pub laid-out-whole : length b ≡ imageLength form (configIn form b)
-  laid-out-whole = eqb-true _ _ (both words-test length-test (both (isRead form) (words-test && length-test) e).1).1
+  pub laid-out-whole : length b ≡ image_length form (config_in form b)
+  laid-out-whole = eqb-true _ _ (both words-test length-test (both (is_read form) (words-test && length-test) e).1).1
 
 pub record Restorable (form : ℕ) (b : List ℕ) (t : Tables) : Type 0 where
-  pub read : isRead form ≡ true
-  pub header-there : headerLength oldest ≤ length b
-  pub valid-is : valid (configIn form b) ≡ true
-  pub conf : Valid (configIn form b)
-  pub header_is : headerIn form b ≡ header form (configIn form b) (previousIn b) (memoryIn form b).counts
-  pub whole : length b ≡ imageLength form (configIn form b)
-  pub sizes : lentWrong (states (configIn form b)) t ≡ false
-  pub sound : broken (configIn form b) (previousIn b) ≡ false
-  pub mirrored : checkMirrored (configIn form b) (memoryIn form b).counts ≡ Fine
+  pub read : is_read form ≡ true
+  pub header-there : header_length oldest ≤ length b
+  pub valid-is : valid (config_in form b) ≡ true
+  pub conf : Valid (config_in form b)
+  pub header_is : header_in form b ≡ header form (config_in form b) (previous_in b) (memory_in form b).counts
+  pub whole : length b ≡ image_length form (config_in form b)
+  pub sizes : lent_wrong (states (config_in form b)) t ≡ false
+  pub sound : broken (config_in form b) (previous_in b) ≡ false
+  pub mirrored : check_mirrored (config_in form b) (memory_in form b).counts ≡ Fine
 
-form-known : (form : ℕ) (b : List ℕ) (t : Tables) → formRefusal form b t ≡ Fine → Restorable form b t
+form-known : (form : ℕ) (b : List ℕ) (t : Tables) → form_refusal form b t ≡ Fine → Restorable form b t
 form-known form b t e =
-    let c = configIn form b in
-    let a = first_fine (refuseIf (tooShort b) 12) (first_of (checkConfig c) (first_of (refuseIf (not (laidOut form b)) 12) (heldRefusal form b t))) e in
-    let d = first_fine (checkConfig c) (first_of (refuseIf (not (laidOut form b)) 12) (heldRefusal form b t)) a.1 in
-    let f = first_fine (refuseIf (not (laidOut form b)) 12) (heldRefusal form b t) d.1 in
-    let l = not-false (laidOut form b) (if-fine (not (laidOut form b)) 12 refl f.0) in
-    let h = first_fine (refuseIf (lentWrong (states c) t) 7)
-    (first_of (refuseIf (broken c (previousIn b)) 8) (checkMirrored c (memoryIn form b).counts)) f.1 in
-    let k = first_fine (refuseIf (broken c (previousIn b)) 8) (checkMirrored c (memoryIn form b).counts) h.1 in
+    let c = config_in form b in
+    let a = first_fine (refuse_if (too_short b) 12) (first_of (check_config c) (first_of (refuse_if (not (laid_out form b)) 12) (held_refusal form b t))) e in
+    let d = first_fine (check_config c) (first_of (refuse_if (not (laid_out form b)) 12) (held_refusal form b t)) a.1 in
+    let f = first_fine (refuse_if (not (laid_out form b)) 12) (held_refusal form b t) d.1 in
+    let l = not-false (laid_out form b) (if-fine (not (laid_out form b)) 12 refl f.0) in
+    let h = first_fine (refuse_if (lent_wrong (states c) t) 7)
+    (first_of (refuse_if (broken c (previous_in b)) 8) (check_mirrored c (memory_in form b).counts)) f.1 in
+    let k = first_fine (refuse_if (broken c (previous_in b)) 8) (check_mirrored c (memory_in form b).counts) h.1 in
     record {
       read = laid-out-read form b l;
-      header-there = ltb-false (length b) (headerLength oldest) (if-fine (tooShort b) 12 refl a.0);
+      header-there = ltb-false (length b) (header_length oldest) (if-fine (too_short b) 12 refl a.0);
       valid-is = not-false (valid c) (if-fine (not (valid c)) 1 refl d.0);
       conf = valid-known c (not-false (valid c) (if-fine (not (valid c)) 1 refl d.0));
       header_is = laid-out-header form b l;
       whole = laid-out-whole form b l;
-      sizes = if-fine (lentWrong (states c) t) 7 refl h.0;
-      sound = if-fine (broken c (previousIn b)) 8 refl k.0;
+      sizes = if-fine (lent_wrong (states c) t) 7 refl h.0;
+      sound = if-fine (broken c (previous_in b)) 8 refl k.0;
       mirrored = k.1;
     }
 
 -- of lent tables a refusal sees the lengths alone
 pub restore-by-lengths : (b : List ℕ) (t u : Tables) → length t.stay ≡ length u.stay → length t.moved ≡ length u.moved
-    → length t.totals ≡ length u.totals → restoreRefusal b t ≡ restoreRefusal b u
+    → length t.totals ≡ length u.totals → restore_refusal b t ≡ restore_refusal b u
 restore-by-lengths b t u stay moved totals =
-    let form = formIn b in
-    let c = configIn form b in
+    let form = form_in b in
+    let c = config_in form b in
     λ i.
-    first_of (refuseIf (tooShort b) 12)
-    (first_of (checkConfig c)
-    (first_of (refuseIf (not (laidOut form b)) 12)
-    (first_of (refuseIf (wrongLengths (states c) (stay i) (moved i) (totals i)) 7)
-    (first_of (refuseIf (broken c (previousIn b)) 8) (checkMirrored c (memoryIn form b).counts)))))
+    first_of (refuse_if (too_short b) 12)
+    (first_of (check_config c)
+    (first_of (refuse_if (not (laid_out form b)) 12)
+    (first_of (refuse_if (wrong_lengths (states c) (stay i) (moved i) (totals i)) 7)
+    (first_of (refuse_if (broken c (previous_in b)) 8) (check_mirrored c (memory_in form b).counts)))))
 
-module _ (b : List ℕ) (t : Tables) (e : restoreRefusal b t ≡ Fine) where
-  pub restore-known : Restorable (formIn b) b t
-  restore-known = form-known (formIn b) b t e
+module _ (b : List ℕ) (t : Tables) (e : restore_refusal b t ≡ Fine) where
+  pub restore-known : Restorable (form_in b) b t
+  restore-known = form-known (form_in b) b t e
 
-  pub restore-newest : formIn b ≡ newest
-  restore-newest = read-newest (formIn b) restore-known.read
+  pub restore-newest : form_in b ≡ newest
+  restore-newest = read-newest (form_in b) restore-known.read
 
-  pub restore-readable : Readable (formIn b) b (length t.stay) (length t.moved) (length t.totals)
+  pub restore-readable : Readable (form_in b) b (length t.stay) (length t.moved) (length t.totals)
   restore-readable =
       let k = restore-known in
-      let z = lengths-known (states (configIn (formIn b) b)) (length t.stay) (length t.moved) (length t.totals) k.sizes in
+      let z = lengths-known (states (config_in (form_in b) b)) (length t.stay) (length t.moved) (length t.totals) k.sizes in
       record {
         few = k.conf.states-most;
         stay-cells = z.stay-cells;
@@ -174,9 +174,9 @@ part n k at b e h =
     let d : length (take k (drop at b)) / 8 ≡ n = omega arith in
     (l, ap (λ (j : ℕ). words_of j (take k (drop at b))) d ∙ words_take n k (drop at b) (omega arith))
 
-module _ (form : ℕ) (b : List ℕ) (c : MicroPriceConfig) (v : Valid c) (long : length b ≡ imageLength form c) (C : ℕ) (is : C ≡ cells c) where
+module _ (form : ℕ) (b : List ℕ) (c : MicroPriceConfig) (v : Valid c) (long : length b ≡ image_length form c) (C : ℕ) (is : C ≡ cells c) where
   abbrev start : ℕ
-  start = headerLength form
+  start = header_length form
 
   abbrev sb : List ℕ
   sb = take (start + 8 * C - start) (drop start b)
@@ -205,7 +205,7 @@ module _ (form : ℕ) (b : List ℕ) (c : MicroPriceConfig) (v : Valid c) (long 
         totals-there = record { lent_is = λ e. absurd (zero-not-one cc); bytes-is = λ e. in-totals.0 };
       }
 
-  pub parts_are : (s m : List ℕ) (t : List ℤ) → tablesIn true s m t sb mb tb ≡ tablesFrom (states c) (drop start b)
+  pub parts_are : (s m : List ℕ) (t : List ℤ) → tables_in true s m t sb mb tb ≡ tables_from (states c) (drop start b)
   parts_are s m t =
       let dm : drop (start + 8 * C) b ≡ drop (8 * cells c) (drop start b) =
       sym (drop-drop (8 * cells c) start b ∙ ap (λ (j : ℕ). drop j b) (let s : start + 8 * cells c ≡ start + 8 * C = omega arith in s)) in

@@ -10,31 +10,31 @@ use Rattle.image_words.specs.Words.{bytes_of, twos}
 use Rattle.config.specs.Configuration.{states}
 use Rattle.config.specs.declared.MicroPriceConfig.{MicroPriceConfig}
 use Rattle.tally.specs.Entries.{tables}
-use Rattle.calibrator.specs.Record.{countsOf, memory}
+use Rattle.calibrator.specs.Record.{counts_of, memory}
 use Rattle.calibrator.specs.declared.Record.{Record}
 use Rattle.calibrator.proofs.Lengths.{RightLengths}
-use Rattle.image_layout.specs.Layout.{oldest, headerLength, cells, imageLength, header, image}
+use Rattle.image_layout.specs.Layout.{oldest, header_length, cells, image_length, header, image}
 use Rattle.image_layout.proofs.Parts.{image-is}
 
 -- what writing an image of the form rests on: tables of the configuration's lengths, an output of the image's
 pub record Writable (form : ℕ) (c : MicroPriceConfig) (s m : List ℕ) (t : List ℤ) (o : List ℕ) : Type 0 where
   pub sizes : RightLengths (states c) (length s) (length m) (length t)
-  pub long : length o ≡ imageLength form c
+  pub long : length o ≡ image_length form c
 
 -- o is the output as it came, o₁ to o₄ as each store leaves it (of length l₁ and so on), C the number of cells as code has it
 module _ {form : ℕ} {c : MicroPriceConfig} {s m : List ℕ} {t : List ℤ} {o : List ℕ} (w : Writable form c s m t o) where
-  pub stay-inside : {l₁ : ℕ} → l₁ ≡ length o → headerLength form + 8 * length s ≤ l₁
+  pub stay-inside : {l₁ : ℕ} → l₁ ≡ length o → header_length form + 8 * length s ≤ l₁
   stay-inside e₁ = omega (arith, w.long, w.sizes.stay-cells)
 
-  pub moved_inside : {C l₁ l₂ : ℕ} → C ≡ cells c → l₁ ≡ length o → l₂ ≡ l₁ → headerLength form + 8 * C + 8 * length m ≤ l₂
+  pub moved_inside : {C l₁ l₂ : ℕ} → C ≡ cells c → l₁ ≡ length o → l₂ ≡ l₁ → header_length form + 8 * C + 8 * length m ≤ l₂
   moved_inside ec e₁ e₂ = omega (arith, w.long, w.sizes.moved-cells)
 
-  pub totals-inside : {C l₁ l₂ l₃ : ℕ} → C ≡ cells c → l₁ ≡ length o → l₂ ≡ l₁ → l₃ ≡ l₂ → headerLength form + 16 * C + 8 * length t ≤ l₃
+  pub totals-inside : {C l₁ l₂ l₃ : ℕ} → C ≡ cells c → l₁ ≡ length o → l₂ ≡ l₁ → l₃ ≡ l₂ → header_length form + 16 * C + 8 * length t ≤ l₃
   totals-inside ec e₁ e₂ e₃ = omega (arith, w.long, w.sizes.totals-cells)
 
   pub image-written : oldest ≤ form → (r : Record) {C : ℕ} {h o₁ o₂ o₃ o₄ : List ℕ} → C ≡ cells c
-      → h ≡ header form c r.previous (countsOf r.counters (tables [] [] []))
-      → o₁ ≡ sets o 0 (bytes_of h) → o₂ ≡ sets o₁ (headerLength form) (bytes_of s) → o₃ ≡ sets o₂ (headerLength form + 8 * C) (bytes_of m)
-      → o₄ ≡ sets o₃ (headerLength form + 16 * C) (bytes_of (map twos t)) → o₄ ≡ image form c (memory r s m t)
+      → h ≡ header form c r.previous (counts_of r.counters (tables [] [] []))
+      → o₁ ≡ sets o 0 (bytes_of h) → o₂ ≡ sets o₁ (header_length form) (bytes_of s) → o₃ ≡ sets o₂ (header_length form + 8 * C) (bytes_of m)
+      → o₄ ≡ sets o₃ (header_length form + 16 * C) (bytes_of (map twos t)) → o₄ ≡ image form c (memory r s m t)
   unfolding header
   image-written least r ec eh e₁ e₂ e₃ e₄ = image-is form least c r s m t _ o _ _ _ _ w.sizes w.long eh _ ec e₁ e₂ e₃ e₄

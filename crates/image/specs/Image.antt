@@ -1,82 +1,82 @@
 -- Save and restore: document 01, "The image".
 use Rattle.std.specs.Prelude.{ℕ, Bool, not, List, ltb, eqb, length}
-use Rattle.refusals.specs.Refusals.{refuseIf, first_of}
+use Rattle.refusals.specs.Refusals.{refuse_if, first_of}
 use Rattle.refusals.specs.declared.Check.{Check}
 use Rattle.refusals.specs.declared.Check.TheVariants as Check
-use Rattle.config.specs.Configuration.{states, checkConfig}
+use Rattle.config.specs.Configuration.{states, check_config}
 use Rattle.config.specs.declared.MicroPriceConfig.{MicroPriceConfig}
 use Rattle.tally.specs.Entries.{Tables}
 use Rattle.tally.specs.Rules.{Memory}
-use Rattle.count_check.specs.Mirrors.{checkMirrored}
-use Rattle.calibrator.specs.Observe.{wrongLengths, checkMemory, broken}
+use Rattle.count_check.specs.Mirrors.{check_mirrored}
+use Rattle.calibrator.specs.Observe.{wrong_lengths, check_memory, broken}
 use Rattle.calibrator.specs.declared.Previous.{Previous}
-use Rattle.image_layout.specs.Layout.{oldest, newest, headerLength, imageLength, image, formIn, configIn, previousIn, memoryIn, laidOut}
+use Rattle.image_layout.specs.Layout.{oldest, newest, header_length, image_length, image, form_in, config_in, previous_in, memory_in, laid_out}
 use Rattle.image.specs.declared.Restored.{Restored}
 use Rattle.image.specs.declared.Restored.TheVariants.{Config, Refused}
 
 -- ---- save
 
 -- 1, 7 (tables, output), 8, 6, 9, 10, 11
-abbrev pub saveRefusal : MicroPriceConfig → Memory Previous → ℕ → Check
-saveRefusal c m long =
-    first_of (checkMemory c m)
-    (first_of (refuseIf (not (eqb long (imageLength newest c))) 7)
-    (first_of (refuseIf (broken c m.last) 8) (checkMirrored c m.counts)))
+abbrev pub save_refusal : MicroPriceConfig → Memory Previous → ℕ → Check
+save_refusal c m long =
+    first_of (check_memory c m)
+    (first_of (refuse_if (not (eqb long (image_length newest c))) 7)
+    (first_of (refuse_if (broken c m.last) 8) (check_mirrored c m.counts)))
 
 -- an answer, and what the output then holds
 pub record Saved : Type 0 where
   pub answer : Check
   pub output : List ℕ
 
-abbrev pub endSave : Check → List ℕ → Saved
-endSave k out = record { answer = k; output = out }
+abbrev pub end_save : Check → List ℕ → Saved
+end_save k out = record { answer = k; output = out }
 
 -- refused: the output unchanged; else the output is the image
-abbrev pub savedUnless : Check → List ℕ → List ℕ → Saved
-savedUnless Check.Fine before written = endSave Check.Fine written
-savedUnless (Check.Refused r) before written = endSave (Check.Refused r) before
+abbrev pub saved_unless : Check → List ℕ → List ℕ → Saved
+saved_unless Check.Fine before written = end_save Check.Fine written
+saved_unless (Check.Refused r) before written = end_save (Check.Refused r) before
 
 abbrev pub saved : MicroPriceConfig → Memory Previous → List ℕ → Saved
-saved c m out = savedUnless (saveRefusal c m (length out)) out (image newest c m)
+saved c m out = saved_unless (save_refusal c m (length out)) out (image newest c m)
 
 -- ---- restore
 
 -- 12: under 160 bytes
-abbrev pub tooShort : List ℕ → Bool
-tooShort b = ltb (length b) (headerLength oldest)
+abbrev pub too_short : List ℕ → Bool
+too_short b = ltb (length b) (header_length oldest)
 
 -- 7: the lent tables do not have the lengths of N states
-abbrev pub lentWrong : ℕ → Tables → Bool
-lentWrong N t = wrongLengths N (length t.stay) (length t.moved) (length t.totals)
+abbrev pub lent_wrong : ℕ → Tables → Bool
+lent_wrong N t = wrong_lengths N (length t.stay) (length t.moved) (length t.totals)
 
 -- 7, 8, then 6, 9, 10, 11 on what an image of the form holds
-abbrev pub heldRefusal : ℕ → List ℕ → Tables → Check
-heldRefusal form b t =
-    first_of (refuseIf (lentWrong (states (configIn form b)) t) 7)
-    (first_of (refuseIf (broken (configIn form b) (previousIn b)) 8) (checkMirrored (configIn form b) (memoryIn form b).counts))
+abbrev pub held_refusal : ℕ → List ℕ → Tables → Check
+held_refusal form b t =
+    first_of (refuse_if (lent_wrong (states (config_in form b)) t) 7)
+    (first_of (refuse_if (broken (config_in form b) (previous_in b)) 8) (check_mirrored (config_in form b) (memory_in form b).counts))
 
 -- 12, 1, 12, then those
-abbrev pub formRefusal : ℕ → List ℕ → Tables → Check
-formRefusal form b t =
-    first_of (refuseIf (tooShort b) 12)
-    (first_of (checkConfig (configIn form b)) (first_of (refuseIf (not (laidOut form b)) 12) (heldRefusal form b t)))
+abbrev pub form_refusal : ℕ → List ℕ → Tables → Check
+form_refusal form b t =
+    first_of (refuse_if (too_short b) 12)
+    (first_of (check_config (config_in form b)) (first_of (refuse_if (not (laid_out form b)) 12) (held_refusal form b t)))
 
 -- by the form that the image has
-abbrev pub restoreRefusal : List ℕ → Tables → Check
-restoreRefusal b t = formRefusal (formIn b) b t
+abbrev pub restore_refusal : List ℕ → Tables → Check
+restore_refusal b t = form_refusal (form_in b) b t
 
 -- an answer and the memory that it leaves
 pub record Taken : Type 0 where
   pub answer : Restored
   pub left : Memory Previous
 
-abbrev pub endRestore : Restored → Memory Previous → Taken
-endRestore a m = record { answer = a; left = m }
+abbrev pub end_restore : Restored → Memory Previous → Taken
+end_restore a m = record { answer = a; left = m }
 
 -- refused: record and tables unchanged; else it answers the configuration, and they hold what the image holds
-abbrev pub takenUnless : Check → List ℕ → Memory Previous → Taken
-takenUnless Check.Fine b m = endRestore (Config (configIn (formIn b) b)) (memoryIn (formIn b) b)
-takenUnless (Check.Refused r) b m = endRestore (Refused r) m
+abbrev pub taken_unless : Check → List ℕ → Memory Previous → Taken
+taken_unless Check.Fine b m = end_restore (Config (config_in (form_in b) b)) (memory_in (form_in b) b)
+taken_unless (Check.Refused r) b m = end_restore (Refused r) m
 
 abbrev pub restored : List ℕ → Memory Previous → Taken
-restored b m = takenUnless (restoreRefusal b m.counts.tables) b m
+restored b m = taken_unless (restore_refusal b m.counts.tables) b m

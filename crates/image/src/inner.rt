@@ -5,9 +5,9 @@ ghost use Rattle.config.specs.Configuration.{states};
 ghost use Rattle.config.specs.Inner.{Valid};
 ghost use Rattle.tally.specs.Entries.{tables};
 ghost use Rattle.calibrator.specs.Record.{came, remains};
-ghost use Rattle.calibrator.specs.Observe.{broken, wrongLengths};
-ghost use Rattle.image_layout.specs.Layout.{newest, imageLength, image, configIn, recordIn, memoryIn};
-ghost use Rattle.image.specs.Image.{endSave, saved, saveRefusal, endRestore, restored, heldRefusal, restoreRefusal};
+ghost use Rattle.calibrator.specs.Observe.{broken, wrong_lengths};
+ghost use Rattle.image_layout.specs.Layout.{newest, image_length, image, config_in, record_in, memory_in};
+ghost use Rattle.image.specs.Image.{end_save, saved, save_refusal, end_restore, restored, held_refusal, restore_refusal};
 ghost use Rattle.image.specs.Inner.{Readable};
 
 use super::{RestoreDone, Restored};
@@ -37,7 +37,7 @@ fn check_save(
     config: MicroPriceConfig,
     long: usize,
 ) -> Check
-    ensures { result ≡ saveRefusal config (came rec stay moved move_half_ticks) long }
+    ensures { result ≡ save_refusal config (came rec stay moved move_half_ticks) long }
 {
     let lengths = calibrator::inner::check_table_lengths(
         config,
@@ -67,7 +67,7 @@ fn write_image(
     config: MicroPriceConfig,
     out: &mut [u8],
 )
-    requires { Valid config × (wrongLengths (states config) (length stay.now) (length moved.now) (length move_half_ticks.now) ≡ false) × (length out.old ≡ imageLength newest config) }
+    requires { Valid config × (wrong_lengths (states config) (length stay.now) (length moved.now) (length move_half_ticks.now) ≡ false) × (length out.old ≡ image_length newest config) }
     ensures { final out ≡ image newest config (came rec stay moved move_half_ticks) }
 {
     let cells = image_layout::cell_count(config);
@@ -87,7 +87,7 @@ pub fn save(
     config: MicroPriceConfig,
     out: &mut [u8],
 ) -> Check
-    ensures { endSave result (final out) ≡ saved config (came rec stay moved move_half_ticks) (given out) }
+    ensures { end_save result (final out) ≡ saved config (came rec stay moved move_half_ticks) (given out) }
 {
     let k = check_save(rec, stay, moved, move_half_ticks, config, out.len());
     let Check::Fine = k else {
@@ -106,8 +106,8 @@ fn check_held(
     moved: &[u64],
     move_half_ticks: &[i64],
 ) -> Check
-    requires { Valid config × (config ≡ configIn newest b.now) × (rec ≡ recordIn newest b.now) × (length b.now ≡ imageLength newest config) }
-    ensures { result ≡ heldRefusal newest (given b) (tables (given stay) (given moved) (given move_half_ticks)) }
+    requires { Valid config × (config ≡ config_in newest b.now) × (rec ≡ record_in newest b.now) × (length b.now ≡ image_length newest config) }
+    ensures { result ≡ held_refusal newest (given b) (tables (given stay) (given moved) (given move_half_ticks)) }
 {
     let n = config::inner::state_count(config);
     if calibrator::inner::wrong_lengths(n, stay.len(), moved.len(), move_half_ticks.len()) {
@@ -139,7 +139,7 @@ fn check_held(
 
 // What refuses an image, judged on its bytes before anything is written.
 pub fn check_restore(b: &[u8], stay: &[u64], moved: &[u64], move_half_ticks: &[i64]) -> Check
-    ensures { result ≡ restoreRefusal (given b) (tables (given stay) (given moved) (given move_half_ticks)) }
+    ensures { result ≡ restore_refusal (given b) (tables (given stay) (given moved) (given move_half_ticks)) }
 {
     if b.len() < image_layout::LEAST {
         return Check::Refused(Refusal::ImageLayout);
@@ -157,7 +157,7 @@ pub fn check_restore(b: &[u8], stay: &[u64], moved: &[u64], move_half_ticks: &[i
 
 fn read_tables(b: &[u8], stay: &mut [u64], moved: &mut [u64], move_half_ticks: &mut [i64])
     requires { Readable newest b.now (length stay.old) (length moved.old) (length move_half_ticks.old) }
-    ensures { tables (final stay) (final moved) (final move_half_ticks) ≡ (memoryIn newest (given b)).counts.tables }
+    ensures { tables (final stay) (final moved) (final move_half_ticks) ≡ (memory_in newest (given b)).counts.tables }
 {
     let cells = stay.len();
     image_words::get_table(b, image_layout::HEADER, stay);
@@ -173,7 +173,7 @@ pub fn restore(
     moved: &mut [u64],
     move_half_ticks: &mut [i64],
 ) -> RestoreDone
-    ensures { endRestore result.answer (remains result.next stay moved move_half_ticks) ≡ restored (given image) (came rec stay moved move_half_ticks) }
+    ensures { end_restore result.answer (remains result.next stay moved move_half_ticks) ≡ restored (given image) (came rec stay moved move_half_ticks) }
 {
     let k = check_restore(image, stay, moved, move_half_ticks);
     if let Check::Refused(refusal) = k {

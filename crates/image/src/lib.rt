@@ -1,4 +1,6 @@
 // The image of a calibrator: save and restore (document 01, "The image"). The record, the tables and the bytes are lent.
+#![tactic(auto)]
+
 use calibrator::Record;
 use config::MicroPriceConfig;
 use refusals::{Check, Refusal};
@@ -8,7 +10,7 @@ pub mod inner;
 ghost use Rattle.std.specs.Prelude.{◌≡◌};
 ghost use Rattle.basics.specs.Loan.{given, final};
 ghost use Rattle.calibrator.specs.Record.{came, remains};
-ghost use Rattle.image.specs.Image.{endSave, saved, endRestore, restored};
+ghost use Rattle.image.specs.Image.{end_save, saved, end_restore, restored};
 
 // What restore answers.
 #[derive(Drop)]
@@ -33,7 +35,7 @@ pub fn save(
     config: MicroPriceConfig,
     out: &mut [u8],
 ) -> Check
-    ensures { endSave result (final out) ≡ saved config (came (given rec) stay moved move_half_ticks) (given out) }
+    ensures { end_save result (final out) ≡ saved config (came (given rec) stay moved move_half_ticks) (given out) }
 {
     inner::save(*rec, stay, moved, move_half_ticks, config, out)
 }
@@ -46,7 +48,7 @@ pub fn restore(
     moved: &mut [u64],
     move_half_ticks: &mut [i64],
 ) -> Restored
-    ensures { endRestore result (remains (final rec) stay moved move_half_ticks) ≡ restored (given image) (came (given rec) stay moved move_half_ticks) }
+    ensures { end_restore result (remains (final rec) stay moved move_half_ticks) ≡ restored (given image) (came (given rec) stay moved move_half_ticks) }
 {
     let done = inner::restore(*rec, image, stay, moved, move_half_ticks);
     *rec = done.next;

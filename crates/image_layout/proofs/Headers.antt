@@ -16,21 +16,21 @@ use Rattle.image_words.proofs.Laws.{words-at}
 use Rattle.config.specs.declared.MicroPriceConfig.{MicroPriceConfig}
 use Rattle.tally.specs.Entries.{tables}
 use Rattle.tally.specs.Events.{Counts}
-use Rattle.calibrator.specs.Record.{countsOf}
+use Rattle.calibrator.specs.Record.{counts_of}
 use Rattle.calibrator.specs.declared.Previous.{Previous}
 use Rattle.calibrator.specs.declared.Record.{Record}
-use Rattle.image_layout.specs.Layout.{newest, isRead, imageLength, header, formIn, configIn, recordIn, headerIn, laidOut}
+use Rattle.image_layout.specs.Layout.{newest, is_read, image_length, header, form_in, config_in, record_in, header_in, laid_out}
 
 -- the words from i on of a header of h's form, compared with those of h
 module _ (b h : List ℕ) where
-  abbrev pub sameFrom : ℕ → Bool
-  sameFrom i = same_words (words_of (length h - i) (drop (8 * i) b)) (drop i h)
+  abbrev pub same_from : ℕ → Bool
+  same_from i = same_words (words_of (length h - i) (drop (8 * i) b)) (drop i h)
 
-  pub same_start : same_words (headerIn (length h) b) h ≡ sameFrom 0
-  unfolding headerIn
+  pub same_start : same_words (header_in (length h) b) h ≡ same_from 0
+  unfolding header_in
   same_start = ap (λ (n : ℕ). same_words (words_of n b) h) (let e : length h ≡ length h - 0 = omega arith in e)
 
-  same_step : (i : ℕ) → i < length h → sameFrom i ≡ (eqb (word_at b (8 * i)) (get_or h i 0) && sameFrom (i + 1))
+  same_step : (i : ℕ) → i < length h → same_from i ≡ (eqb (word_at b (8 * i)) (get_or h i 0) && same_from (i + 1))
   same_step i l =
       let n : length h - i ≡ suc (length h - (i + 1)) = omega arith in
       let k : suc i ≡ i + 1 = omega arith in
@@ -41,13 +41,13 @@ module _ (b h : List ℕ) where
 
   -- a turn of the walk: the word w that is read at i differs from the one in h, or is that one
   module _ (i : ℕ) {w : ℕ} (l : i < length h) (ew : w ≡ word_at b (8 * i)) where
-    pub same_differs : (w ≡ get_or h i 0 → ⊥) → sameFrom i ≡ false
+    pub same_differs : (w ≡ get_or h i 0 → ⊥) → same_from i ≡ false
     same_differs n = same_step i l ∙ rw (← ew, ne_eqb w (get_or h i 0) n)
 
-    pub same-agrees : w ≡ get_or h i 0 → sameFrom i ≡ sameFrom (i + 1)
+    pub same-agrees : w ≡ get_or h i 0 → same_from i ≡ same_from (i + 1)
     same-agrees f = same_step i l ∙ rw (← ew, eq-eqb w (get_or h i 0) f)
 
-  pub same_end : (i : ℕ) → length h ≤ i → sameFrom i ≡ true
+  pub same_end : (i : ℕ) → length h ≤ i → same_from i ≡ true
   same_end i l =
       let n : length h - i ≡ 0 = omega arith in
       rw (n, drop_of_length-le h {i = i} l)
@@ -55,35 +55,35 @@ module _ (b h : List ℕ) where
 -- ---- the test of the layout
 
 -- of a form that is read
-laid-out-at : (form : ℕ) (b : List ℕ) (c : MicroPriceConfig) (r : Record) (h : List ℕ) (s : Bool) (long : ℕ) → isRead form ≡ true → c ≡ configIn form b
-    → r ≡ recordIn form b → h ≡ header form c r.previous (countsOf r.counters (tables [] [] [])) → s ≡ same_words (headerIn form b) h
-    → long ≡ imageLength form c → (s && eqb (length b) long) ≡ laidOut form b
+laid-out-at : (form : ℕ) (b : List ℕ) (c : MicroPriceConfig) (r : Record) (h : List ℕ) (s : Bool) (long : ℕ) → is_read form ≡ true → c ≡ config_in form b
+    → r ≡ record_in form b → h ≡ header form c r.previous (counts_of r.counters (tables [] [] [])) → s ≡ same_words (header_in form b) h
+    → long ≡ image_length form c → (s && eqb (length b) long) ≡ laid_out form b
 unfolding header
 laid-out-at form b c r h s long read ec er eh es el = rw (read, es, eh, el, ec, er)
 
 -- an image whose words are those of the newest header has that form
-same-form : (b : List ℕ) (c : MicroPriceConfig) (l : Previous) (k : Counts) → same_words (headerIn newest b) (header newest c l k) ≡ true → formIn b ≡ newest
-unfolding header headerIn
+same-form : (b : List ℕ) (c : MicroPriceConfig) (l : Previous) (k : Counts) → same_words (header_in newest b) (header newest c l k) ≡ true → form_in b ≡ newest
+unfolding header header_in
 same-form b c l k e =
     ap (λ (w : ℕ). w / 8) (sym (words-at newest 6 b (omega arith)) ∙ ap (λ (ws : List ℕ). get_or ws 6 0) (same-equal (words_of newest b) (header newest c l k) e))
 
 -- as code makes it: it compares with the newest header, as no other form is read
-pub laid-out-is : (b : List ℕ) (c : MicroPriceConfig) (r : Record) (h : List ℕ) (s : Bool) (long : ℕ) → c ≡ configIn (formIn b) b → r ≡ recordIn (formIn b) b
-    → h ≡ header newest c r.previous (countsOf r.counters (tables [] [] [])) → s ≡ same_words (headerIn newest b) h → long ≡ imageLength newest c
-    → (s && eqb (length b) long) ≡ laidOut (formIn b) b
-laid-out-is b c r h s long ec er eh es el = go (isRead (formIn b)) refl
+pub laid-out-is : (b : List ℕ) (c : MicroPriceConfig) (r : Record) (h : List ℕ) (s : Bool) (long : ℕ) → c ≡ config_in (form_in b) b → r ≡ record_in (form_in b) b
+    → h ≡ header newest c r.previous (counts_of r.counters (tables [] [] [])) → s ≡ same_words (header_in newest b) h → long ≡ image_length newest c
+    → (s && eqb (length b) long) ≡ laid_out (form_in b) b
+laid-out-is b c r h s long ec er eh es el = go (is_read (form_in b)) refl
   where
-    go : (t : Bool) → isRead (formIn b) ≡ t → (s && eqb (length b) long) ≡ laidOut (formIn b) b
+    go : (t : Bool) → is_read (form_in b) ≡ t → (s && eqb (length b) long) ≡ laid_out (form_in b) b
     go true e =
-        let read : formIn b ≡ newest = eqb-true (formIn b) newest e in
-        laid-out-at newest b c r h s long refl (ec ∙ ap (λ (form : ℕ). configIn form b) read) (er ∙ ap (λ (form : ℕ). recordIn form b) read) eh es el
-        ∙ ap (λ (form : ℕ). laidOut form b) (sym read)
+        let read : form_in b ≡ newest = eqb-true (form_in b) newest e in
+        laid-out-at newest b c r h s long refl (ec ∙ ap (λ (form : ℕ). config_in form b) read) (er ∙ ap (λ (form : ℕ). record_in form b) read) eh es el
+        ∙ ap (λ (form : ℕ). laid_out form b) (sym read)
     go false e =
         let differs : s ≡ false =
         fails s
         (λ same.
         true≢false
-        (sym (eq-eqb (formIn b) newest
-        (same-form b c r.previous (countsOf r.counters (tables [] [] [])) (ap (same_words (headerIn newest b)) (sym eh) ∙ sym es ∙ same)))
+        (sym (eq-eqb (form_in b) newest
+        (same-form b c r.previous (counts_of r.counters (tables [] [] [])) (ap (same_words (header_in newest b)) (sym eh) ∙ sym es ∙ same)))
         ∙ e)) in
         rw (differs, e)

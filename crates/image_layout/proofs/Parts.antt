@@ -14,13 +14,13 @@ use Rattle.config.specs.Configuration.{states}
 use Rattle.config.specs.declared.MicroPriceConfig.{MicroPriceConfig}
 use Rattle.tally.specs.Entries.{Tables, tables}
 use Rattle.tally.specs.Events.{Counts}
-use Rattle.calibrator.specs.Record.{countsOf, memory}
+use Rattle.calibrator.specs.Record.{counts_of, memory}
 use Rattle.calibrator.specs.declared.Counters.{Counters}
 use Rattle.calibrator.specs.declared.Previous.{Previous}
 use Rattle.calibrator.specs.declared.Previous.TheVariants.{Nothing, Quoted}
 use Rattle.calibrator.specs.declared.Record.{Record}
 use Rattle.calibrator.proofs.Lengths.{RightLengths}
-use Rattle.image_layout.specs.Layout.{oldest, headerLength, cells, imageLength, previousWords, further, header, image}
+use Rattle.image_layout.specs.Layout.{oldest, header_length, cells, image_length, previous_words, further, header, image}
 
 pub squares : (n : ℕ) → n ≤ 256 → n * n ≤ 65536
 squares n h = mul-le-mul h h
@@ -40,11 +40,11 @@ then o xs ys i j e =
 
 -- four parts, each where the one before it ends, are one list
 four-parts : (form : ℕ) (o h s m t : List ℕ) (C N : ℕ) → length h ≡ form → length s ≡ C → length m ≡ C → length t ≡ N
-    → length o ≡ headerLength form + 16 * C + 8 * N
-    → sets (sets (sets (sets o 0 (bytes_of h)) (headerLength form) (bytes_of s)) (headerLength form + 8 * C) (bytes_of m)) (headerLength form + 16 * C) (bytes_of t)
+    → length o ≡ header_length form + 16 * C + 8 * N
+    → sets (sets (sets (sets o 0 (bytes_of h)) (header_length form) (bytes_of s)) (header_length form + 8 * C) (bytes_of m)) (header_length form + 16 * C) (bytes_of t)
     ≡ bytes_of (h ++ (s ++ (m ++ t)))
 four-parts form o h s m t C N eh es em et eo =
-    let start = headerLength form in
+    let start = header_length form in
     then (sets (sets o 0 (bytes_of h)) start (bytes_of s)) m t (start + 8 * C) (start + 16 * C) (omega arith)
     ∙ then (sets o 0 (bytes_of h)) s (m ++ t) start (start + 8 * C) (omega arith)
     ∙ then o h (s ++ (m ++ t)) 0 start (omega arith)
@@ -57,34 +57,34 @@ unfolding header
 length-header form least c Nothing k = omega (arith, length-replicate {A = ℕ} (form - oldest) 0)
 length-header form least c (Quoted q) k = omega (arith, length-replicate {A = ℕ} (form - oldest) 0)
 
-six : (l : Previous) (q rest : List ℕ) → q ≡ previousWords l
-    → get_or q 0 0 ∷ get_or q 1 0 ∷ get_or q 2 0 ∷ get_or q 3 0 ∷ get_or q 4 0 ∷ get_or q 5 0 ∷ rest ≡ previousWords l ++ rest
+six : (l : Previous) (q rest : List ℕ) → q ≡ previous_words l
+    → get_or q 0 0 ∷ get_or q 1 0 ∷ get_or q 2 0 ∷ get_or q 3 0 ∷ get_or q 4 0 ∷ get_or q 5 0 ∷ rest ≡ previous_words l ++ rest
 six Nothing q rest e = rw e
 six (Quoted p) q rest e = rw e
 
 -- the header's words as code lists them
 pub header_is : (form : ℕ) (c : MicroPriceConfig) (l : Previous) (k : Counters) (t : Tables) (n C : ℕ) (q : List ℕ) → n ≡ states c → C ≡ cells c
-    → q ≡ previousWords l
-    → n ∷ c.imbalance_buckets ∷ c.spread_states ∷ c.tick_size ∷ c.min_state_observations ∷ c.max_quote_gap_ms ∷ headerLength form
-    ∷ (headerLength form + 8 * C) ∷ (headerLength form + 16 * C) ∷ get_or q 0 0 ∷ get_or q 1 0 ∷ get_or q 2 0 ∷ get_or q 3 0 ∷ get_or q 4 0 ∷ get_or q 5 0 ∷ k.pairs
-    ∷ k.skipped_spread_pairs ∷ k.skipped_gap_pairs ∷ k.largest_move_half_ticks ∷ (headerLength form + 16 * C + 8 * n) ∷ further form
-    ≡ header form c l (countsOf k t)
+    → q ≡ previous_words l
+    → n ∷ c.imbalance_buckets ∷ c.spread_states ∷ c.tick_size ∷ c.min_state_observations ∷ c.max_quote_gap_ms ∷ header_length form
+    ∷ (header_length form + 8 * C) ∷ (header_length form + 16 * C) ∷ get_or q 0 0 ∷ get_or q 1 0 ∷ get_or q 2 0 ∷ get_or q 3 0 ∷ get_or q 4 0 ∷ get_or q 5 0 ∷ k.pairs
+    ∷ k.skipped_spread_pairs ∷ k.skipped_gap_pairs ∷ k.largest_move_half_ticks ∷ (header_length form + 16 * C + 8 * n) ∷ further form
+    ≡ header form c l (counts_of k t)
 unfolding header
 header_is form c l k t n C q en ec e =
     rw (en, ec)
     (ap (λ (x : List ℕ). states c ∷ c.imbalance_buckets ∷ c.spread_states ∷ c.tick_size ∷ c.min_state_observations ∷ c.max_quote_gap_ms
-    ∷ headerLength form ∷ (headerLength form + 8 * cells c) ∷ (headerLength form + 16 * cells c) ∷ x)
+    ∷ header_length form ∷ (header_length form + 8 * cells c) ∷ (header_length form + 16 * cells c) ∷ x)
     (six l q
-    (k.pairs ∷ k.skipped_spread_pairs ∷ k.skipped_gap_pairs ∷ k.largest_move_half_ticks ∷ imageLength form c ∷ further form) e))
+    (k.pairs ∷ k.skipped_spread_pairs ∷ k.skipped_gap_pairs ∷ k.largest_move_half_ticks ∷ image_length form c ∷ further form) e))
 
 -- the four writes of an image
 pub image-is : (form : ℕ) → oldest ≤ form → (c : MicroPriceConfig) (r : Record) (s m : List ℕ) (t : List ℤ) (h o o₁ o₂ o₃ o₄ : List ℕ)
-    → RightLengths (states c) (length s) (length m) (length t) → length o ≡ imageLength form c
-    → h ≡ header form c r.previous (countsOf r.counters (tables s m t)) → (C : ℕ) → C ≡ cells c → o₁ ≡ sets o 0 (bytes_of h)
-    → o₂ ≡ sets o₁ (headerLength form) (bytes_of s) → o₃ ≡ sets o₂ (headerLength form + 8 * C) (bytes_of m)
-    → o₄ ≡ sets o₃ (headerLength form + 16 * C) (bytes_of (map twos t)) → o₄ ≡ image form c (memory r s m t)
+    → RightLengths (states c) (length s) (length m) (length t) → length o ≡ image_length form c
+    → h ≡ header form c r.previous (counts_of r.counters (tables s m t)) → (C : ℕ) → C ≡ cells c → o₁ ≡ sets o 0 (bytes_of h)
+    → o₂ ≡ sets o₁ (header_length form) (bytes_of s) → o₃ ≡ sets o₂ (header_length form + 8 * C) (bytes_of m)
+    → o₄ ≡ sets o₃ (header_length form + 16 * C) (bytes_of (map twos t)) → o₄ ≡ image form c (memory r s m t)
 image-is form least c r s m t h o o₁ o₂ o₃ o₄ z l eh C ec e₁ e₂ f₃ f₄ =
-    let start = headerLength form in
+    let start = header_length form in
     let e₃ : o₃ ≡ sets o₂ (start + 8 * cells c) (bytes_of m) = rw ec at f₃ in
     let e₄ : o₄ ≡ sets o₃ (start + 16 * cells c) (bytes_of (map twos t)) = rw ec at f₄ in
     e₄
@@ -92,5 +92,5 @@ image-is form least c r s m t h o o₁ o₂ o₃ o₄ z l eh C ec e₁ e₂ f₃
     (e₃
     ∙ ap (λ (x : List ℕ). sets x (start + 8 * cells c) (bytes_of m))
     (e₂ ∙ ap (λ (x : List ℕ). sets x start (bytes_of s)) (e₁ ∙ ap (λ (x : List ℕ). sets o 0 (bytes_of x)) eh)))
-    ∙ four-parts form o (header form c r.previous (countsOf r.counters (tables s m t))) s m (map twos t) (cells c) (states c)
-    (length-header form least c r.previous (countsOf r.counters (tables s m t))) z.stay-cells z.moved-cells (length-map t twos ∙ z.totals-cells) l
+    ∙ four-parts form o (header form c r.previous (counts_of r.counters (tables s m t))) s m (map twos t) (cells c) (states c)
+    (length-header form least c r.previous (counts_of r.counters (tables s m t))) z.stay-cells z.moved-cells (length-map t twos ∙ z.totals-cells) l

@@ -2,7 +2,7 @@
 use Rattle.std.specs.Prelude.{ℕ, ◌+◌, ◌*◌, ◌-◌, ◌/◌, Bool, cond, ◌&&◌, List, [], ◌∷◌, ◌++◌, map, eqb, length, drop, replicate}
 use Rattle.basics.specs.Lists.{same_words}
 use Rattle.image_words.specs.Words.{bytes_of, words_of, word_at, twos, untwos}
-use Rattle.config.specs.Configuration.{states, configOf}
+use Rattle.config.specs.Configuration.{states, config_of}
 use Rattle.config.specs.declared.MicroPriceConfig.{MicroPriceConfig}
 use Rattle.quotes.specs.declared.Skip.TheVariants.{Gap, Spread}
 use Rattle.quotes.specs.declared.TopOfBook.{TopOfBook}
@@ -25,27 +25,27 @@ abbrev pub newest : ℕ
 newest = oldest
 
 -- the forms that restore reads
-abbrev pub isRead : ℕ → Bool
-isRead form = eqb form newest
+abbrev pub is_read : ℕ → Bool
+is_read form = eqb form newest
 
 -- the header's length in bytes, where the tables begin
-abbrev pub headerLength : ℕ → ℕ
-headerLength form = 8 * form
+abbrev pub header_length : ℕ → ℕ
+header_length form = 8 * form
 
 -- N²
 abbrev pub cells : MicroPriceConfig → ℕ
 cells c = states c * states c
 
 -- 160 + 16N² + 8N, by the header's length
-abbrev pub imageLength : ℕ → MicroPriceConfig → ℕ
-imageLength form c = headerLength form + 16 * cells c + 8 * states c
+abbrev pub image_length : ℕ → MicroPriceConfig → ℕ
+image_length form c = header_length form + 16 * cells c + 8 * states c
 
 -- ---- writing
 
 -- 1 if a last quote follows else 0, its five words (else zeros)
-abbrev pub previousWords : Previous → List ℕ
-previousWords Nothing = 0 ∷ 0 ∷ 0 ∷ 0 ∷ 0 ∷ 0 ∷ []
-previousWords (Quoted q) = 1 ∷ q.timestamp_ms ∷ q.bid ∷ q.ask ∷ q.bid_size ∷ q.ask_size ∷ []
+abbrev pub previous_words : Previous → List ℕ
+previous_words Nothing = 0 ∷ 0 ∷ 0 ∷ 0 ∷ 0 ∷ 0 ∷ []
+previous_words (Quoted q) = 1 ∷ q.timestamp_ms ∷ q.bid ∷ q.ask ∷ q.bid_size ∷ q.ask_size ∷ []
 
 -- what a form has past the twenty words: none that is written or read has any, another would hold zeros
 abbrev pub further : ℕ → List ℕ
@@ -60,10 +60,10 @@ header form c l k =
     c.tick_size ∷
     c.min_state_observations ∷
     c.max_quote_gap_ms ∷
-    headerLength form ∷
-    (headerLength form + 8 * cells c) ∷
-    (headerLength form + 16 * cells c) ∷
-    (previousWords l ++ (k.pairs ∷ skipped Spread k ∷ skipped Gap k ∷ k.largest ∷ imageLength form c ∷ further form))
+    header_length form ∷
+    (header_length form + 8 * cells c) ∷
+    (header_length form + 16 * cells c) ∷
+    (previous_words l ++ (k.pairs ∷ skipped Spread k ∷ skipped Gap k ∷ k.largest ∷ image_length form c ∷ further form))
 
 -- the tables follow, totals as two's complement
 abbrev pub body : Tables → List ℕ
@@ -79,23 +79,23 @@ abbrev pub word : List ℕ → ℕ → ℕ
 word b k = word_at b (8 * k)
 
 -- an image's form, by its stay offset
-abbrev pub formIn : List ℕ → ℕ
-formIn b = word b 6 / 8
+abbrev pub form_in : List ℕ → ℕ
+form_in b = word b 6 / 8
 
-abbrev pub configIn : ℕ → List ℕ → MicroPriceConfig
-configIn form b = configOf (word b 3 ∷ word b 1 ∷ word b 2 ∷ word b 4 ∷ word b 5 ∷ [])
+abbrev pub config_in : ℕ → List ℕ → MicroPriceConfig
+config_in form b = config_of (word b 3 ∷ word b 1 ∷ word b 2 ∷ word b 4 ∷ word b 5 ∷ [])
 
-abbrev pub quoteIn : List ℕ → TopOfBook
-quoteIn b =
+abbrev pub quote_in : List ℕ → TopOfBook
+quote_in b =
     record { timestamp_ms = word b 10; bid = word b 11; ask = word b 12; bid_size = word b 13; ask_size = word b 14 }
 
-abbrev pub previousIn : List ℕ → Previous
-previousIn b = cond (eqb (word b 9) 1) (Quoted (quoteIn b)) Nothing
+abbrev pub previous_in : List ℕ → Previous
+previous_in b = cond (eqb (word b 9) 1) (Quoted (quote_in b)) Nothing
 
-abbrev pub recordIn : ℕ → List ℕ → Record
-recordIn form b =
+abbrev pub record_in : ℕ → List ℕ → Record
+record_in form b =
     record {
-      previous = previousIn b;
+      previous = previous_in b;
       counters =
           record {
             pairs = word b 15;
@@ -106,23 +106,23 @@ recordIn form b =
     }
 
 -- the tables of N states in the bytes after the header
-abbrev pub tablesFrom : ℕ → List ℕ → Tables
-tablesFrom N b =
+abbrev pub tables_from : ℕ → List ℕ → Tables
+tables_from N b =
     tables (words_of (N * N) b) (words_of (N * N) (drop (8 * (N * N)) b)) (map untwos (words_of N (drop (16 * (N * N)) b)))
 
 -- what an image holds
-abbrev pub memoryIn : ℕ → List ℕ → Memory Previous
-memoryIn form b =
-    let t = tablesFrom (states (configIn form b)) (drop (headerLength form) b) in
-    memory (recordIn form b) t.stay t.moved t.totals
+abbrev pub memory_in : ℕ → List ℕ → Memory Previous
+memory_in form b =
+    let t = tables_from (states (config_in form b)) (drop (header_length form) b) in
+    memory (record_in form b) t.stay t.moved t.totals
 
 -- the words of the header
-unfoldable pub headerIn : ℕ → List ℕ → List ℕ
-headerIn form b = words_of form b
+unfoldable pub header_in : ℕ → List ℕ → List ℕ
+header_in form b = words_of form b
 
 -- a form that is read, whose header's words are those of the content that they hold, and the length is that content's
-abbrev pub laidOut : ℕ → List ℕ → Bool
-laidOut form b =
-    isRead form
-    && (same_words (headerIn form b) (header form (configIn form b) (previousIn b) (memoryIn form b).counts)
-    && eqb (length b) (imageLength form (configIn form b)))
+abbrev pub laid_out : ℕ → List ℕ → Bool
+laid_out form b =
+    is_read form
+    && (same_words (header_in form b) (header form (config_in form b) (previous_in b) (memory_in form b).counts)
+    && eqb (length b) (image_length form (config_in form b)))

@@ -1,11 +1,13 @@
 // The layout of an image (document 01, "The image"): its header, written and read. Inner functions: for the crates above, not for users. Where one has a `requires`, each caller proves it.
+#![tactic(auto)]
+
 ghost use Rattle.std.specs.Prelude.{◌≡◌, [], ◌≤◌, length};
 ghost use Rattle.basics.specs.Loan.{given};
 ghost use Rattle.config.specs.Inner.{Valid};
 ghost use Rattle.tally.specs.Entries.{tables};
-ghost use Rattle.calibrator.specs.Record.{countsOf};
+ghost use Rattle.calibrator.specs.Record.{counts_of};
 ghost use Rattle.basics.specs.Lists.{same_words};
-ghost use Rattle.image_layout.specs.Layout.{oldest, newest, headerLength, cells, imageLength, previousWords, header, formIn, configIn, quoteIn, previousIn, recordIn, headerIn, laidOut};
+ghost use Rattle.image_layout.specs.Layout.{oldest, newest, header_length, cells, image_length, previous_words, header, form_in, config_in, quote_in, previous_in, record_in, header_in, laid_out};
 
 use calibrator::{Counters, Previous, Record};
 use config::MicroPriceConfig;
@@ -31,7 +33,7 @@ pub fn cell_count(config: MicroPriceConfig) -> usize
 }
 
 pub fn previous_words(previous: Previous) -> [u64; 6]
-    ensures { result ≡ previousWords previous }
+    ensures { result ≡ previous_words previous }
 {
     match previous {
         Previous::Nothing => [0, 0, 0, 0, 0, 0],
@@ -41,7 +43,7 @@ pub fn previous_words(previous: Previous) -> [u64; 6]
 
 pub fn header_words(config: MicroPriceConfig, rec: Record) -> [u64; FORM]
     requires { Valid config }
-    ensures { result ≡ header newest config rec.previous (countsOf rec.counters (tables [] [] [])) }
+    ensures { result ≡ header newest config rec.previous (counts_of rec.counters (tables [] [] [])) }
 {
     let n = config::inner::state_count(config) as u64;
     let cells = cell_count(config) as u64;
@@ -75,14 +77,14 @@ pub fn header_words(config: MicroPriceConfig, rec: Record) -> [u64; FORM]
 
 pub fn image_length(config: MicroPriceConfig) -> usize
     requires { Valid config }
-    ensures { result ≡ imageLength newest config }
+    ensures { result ≡ image_length newest config }
 {
     HEADER + 16 * cell_count(config) + 8 * config::inner::state_count(config)
 }
 
 pub fn config_in(b: &[u8]) -> MicroPriceConfig
-    requires { headerLength oldest ≤ length b.now }
-    ensures { result ≡ configIn (formIn (given b)) (given b) }
+    requires { header_length oldest ≤ length b.now }
+    ensures { result ≡ config_in (form_in (given b)) (given b) }
 {
     let n = image_words::get_word(b, 8);
     let s = image_words::get_word(b, 16);
@@ -94,8 +96,8 @@ pub fn config_in(b: &[u8]) -> MicroPriceConfig
 }
 
 fn quote_in(b: &[u8]) -> TopOfBook
-    requires { headerLength oldest ≤ length b.now }
-    ensures { result ≡ quoteIn (given b) }
+    requires { header_length oldest ≤ length b.now }
+    ensures { result ≡ quote_in (given b) }
 {
     let timestamp_ms = image_words::get_word(b, 80);
     let bid = image_words::get_word(b, 88);
@@ -112,8 +114,8 @@ fn quote_in(b: &[u8]) -> TopOfBook
 }
 
 fn previous_in(b: &[u8]) -> Previous
-    requires { headerLength oldest ≤ length b.now }
-    ensures { result ≡ previousIn (given b) }
+    requires { header_length oldest ≤ length b.now }
+    ensures { result ≡ previous_in (given b) }
 {
     let flag = image_words::get_word(b, 72);
     if flag == 1 {
@@ -123,8 +125,8 @@ fn previous_in(b: &[u8]) -> Previous
 }
 
 pub fn record_in(b: &[u8]) -> Record
-    requires { headerLength oldest ≤ length b.now }
-    ensures { result ≡ recordIn (formIn (given b)) (given b) }
+    requires { header_length oldest ≤ length b.now }
+    ensures { result ≡ record_in (form_in (given b)) (given b) }
 {
     let previous = previous_in(b);
     let pairs = image_words::get_word(b, 120);
@@ -143,8 +145,8 @@ pub fn record_in(b: &[u8]) -> Record
 }
 
 fn same_words(b: &[u8], h: &[u64]) -> bool
-    requires { headerLength (length h.now) ≤ length b.now }
-    ensures { result ≡ same_words (headerIn (length (given h)) (given b)) (given h) }
+    requires { header_length (length h.now) ≤ length b.now }
+    ensures { result ≡ same_words (header_in (length (given h)) (given b)) (given h) }
 {
     let mut i: usize = 0;
     while i < h.len() {
@@ -157,8 +159,8 @@ fn same_words(b: &[u8], h: &[u64]) -> bool
 }
 
 pub fn is_laid_out(b: &[u8], config: MicroPriceConfig, rec: Record) -> bool
-    requires { Valid config × (headerLength oldest ≤ length b.now) × (config ≡ configIn (formIn b.now) b.now) × (rec ≡ recordIn (formIn b.now) b.now) }
-    ensures { result ≡ laidOut (formIn (given b)) (given b) }
+    requires { Valid config × (header_length oldest ≤ length b.now) × (config ≡ config_in (form_in b.now) b.now) × (rec ≡ record_in (form_in b.now) b.now) }
+    ensures { result ≡ laid_out (form_in (given b)) (given b) }
 {
     let h = header_words(config, rec);
     let same = same_words(b, &h);

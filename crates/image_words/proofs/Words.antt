@@ -8,12 +8,12 @@ use borrow.Author.Tests.{ltb-true}
 use Rattle.basics.proofs.Tests.{both}
 use Rattle.image_words.specs.Words.{AllWords}
 
-abbrev pub areWords : List ℕ → Bool
-areWords [] = true
-areWords (w ∷ ws) = ltb w (2 ^ 64) && areWords ws
+abbrev pub are_words : List ℕ → Bool
+are_words [] = true
+are_words (w ∷ ws) = ltb w (2 ^ 64) && are_words ws
 
-pub words-by : (l : List ℕ) → areWords l ≡ true → AllWords l
+pub words-by : (l : List ℕ) → are_words l ≡ true → AllWords l
 words-by [] e = tt
 words-by (w ∷ ws) e =
-    let p = both (ltb w (2 ^ 64)) (areWords ws) e in
+    let p = both (ltb w (2 ^ 64)) (are_words ws) e in
     (ltb-true w (2 ^ 64) p.0, words-by ws p.1)

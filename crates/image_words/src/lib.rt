@@ -1,4 +1,6 @@
 // Words of 64 bits as little-endian bytes, eight to a word, and tables of them. Inner functions: for the crates above, not for users. Where one has a `requires`, each caller proves it.
+#![tactic(auto)]
+
 ghost use Rattle.std.specs.Prelude.{◌≡◌, ◌+◌, ◌*◌, ◌≤◌, ◌<◌, length, get_or, drop, set, map, pos};
 ghost use Rattle.std.proofs.lemmas.List.Edits.{sets};
 ghost use Rattle.basics.specs.Loan.{given, final};

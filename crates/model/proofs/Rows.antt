@@ -13,8 +13,8 @@ use lib.ListN.{length, get_or, set}
 use lib.Seq.{sets, length-sets}
 use Rattle.basics.proofs.Tests.{le-or-lt}
 use Rattle.basics.proofs.Stores.{sets-at, sets_below, sets-above}
-use Rattle.floats.specs.Floats.{plusZero, toBits, fromBits}
-use Rattle.model.specs.Rows.{floatWord, rowWords, rowWord, row_at, plusZeros}
+use Rattle.floats.specs.Floats.{plus_zero, bits_of, from_bits}
+use Rattle.model.specs.Rows.{float_word, row_words, row_word, row_at, plus_zeros}
 use Rattle.model.specs.declared.StateEstimate.{StateEstimate}
 
 -- seven stores, one after another
@@ -27,28 +27,28 @@ pub row_written : (l : List ℕ) (p : ℕ) (e : StateEstimate) (a b c d f g h : 
     → a ≡ e.imbalance_bucket
     → b ≡ e.spread_ticks
     → c ≡ e.observations
-    → d ≡ floatWord e.first_adjustment
-    → f ≡ floatWord e.adjustment
-    → g ≡ floatWord e.fallback_within_moves
+    → d ≡ float_word e.first_adjustment
+    → f ≡ float_word e.adjustment
+    → g ≡ float_word e.fallback_within_moves
     → h ≡ e.status
-    → set (set (set (set (set (set (set l p a) (p + 1) b) (p + 2) c) (p + 3) d) (p + 4) f) (p + 5) g) (p + 6) h ≡ sets l p (rowWords e)
+    → set (set (set (set (set (set (set l p a) (p + 1) b) (p + 2) c) (p + 3) d) (p + 4) f) (p + 5) g) (p + 6) h ≡ sets l p (row_words e)
 row_written l p e a b c d f g h ea eb ec ed ef eg eh =
     seven-stores l p a b c d f g h ∙ (λ j. sets l p (ea j ∷ eb j ∷ ec j ∷ ed j ∷ ef j ∷ eg j ∷ eh j ∷ []))
 
-pub length-row : (e : StateEstimate) → length (rowWords e) ≡ 7
+pub length-row : (e : StateEstimate) → length (row_words e) ≡ 7
 length-row e = refl
 
 -- ---- reading what was written
 
-plus-fits : (x : Float) → T (fits binary64 x) → T (fits binary64 (plusZero x))
-unfolding plusZero fits
+plus-fits : (x : Float) → T (fits binary64 x) → T (fits binary64 (plus_zero x))
+unfolding plus_zero fits
 plus-fits nan h = h
 plus-fits (inf s) h = h
 plus-fits (fin s zero e) h = h
 plus-fits (fin s (suc m) e) h = h
 
-float_back : (x : Float) → T (fits binary64 x) → fromBits (floatWord x) ≡ plusZero x
-float_back x h = of_bits-to_bits binary64 (plusZero x) (plus-fits x h)
+float_back : (x : Float) → T (fits binary64 x) → from_bits (float_word x) ≡ plus_zero x
+float_back x h = of_bits-to_bits binary64 (plus_zero x) (plus-fits x h)
 
 -- the floats of an estimate are binary64's, as every f64 is
 pub record Held (e : StateEstimate) : Type 0 where
@@ -60,32 +60,32 @@ pub record Held (e : StateEstimate) : Type 0 where
 pub row-held : (t : List ℕ) (i : ℕ) → Held (row_at t i)
 row-held t i =
     record {
-      first = of_bits-fits binary64 (rowWord t i 3);
-      final = of_bits-fits binary64 (rowWord t i 4);
-      share = of_bits-fits binary64 (rowWord t i 5);
+      first = of_bits-fits binary64 (row_word t i 3);
+      final = of_bits-fits binary64 (row_word t i 4);
+      share = of_bits-fits binary64 (row_word t i 5);
     }
 
 -- the estimate read from the row that was written for e: e, each zero as plus zero
-pub row_back : (t : List ℕ) (i : ℕ) (e : StateEstimate) → Held e → 7 * i + 7 ≤ length t → row_at (sets t (7 * i) (rowWords e)) i ≡ plusZeros e
+pub row_back : (t : List ℕ) (i : ℕ) (e : StateEstimate) → Held e → 7 * i + 7 ≤ length t → row_at (sets t (7 * i) (row_words e)) i ≡ plus_zeros e
 row_back t i e h r =
-    let word : (k : ℕ) → k < 7 → rowWord (sets t (7 * i) (rowWords e)) i k ≡ get_or (rowWords e) k 0 = λ k b. sets-at 0 (rowWords e) t (7 * i) k b r in
+    let word : (k : ℕ) → k < 7 → row_word (sets t (7 * i) (row_words e)) i k ≡ get_or (row_words e) k 0 = λ k b. sets-at 0 (row_words e) t (7 * i) k b r in
     λ j.
     record {
       imbalance_bucket = word 0 (omega arith) j;
       spread_ticks = word 1 (omega arith) j;
       observations = word 2 (omega arith) j;
-      first_adjustment = (ap fromBits (word 3 (omega arith)) ∙ float_back e.first_adjustment h.first) j;
-      adjustment = (ap fromBits (word 4 (omega arith)) ∙ float_back e.adjustment h.final) j;
-      fallback_within_moves = (ap fromBits (word 5 (omega arith)) ∙ float_back e.fallback_within_moves h.share) j;
+      first_adjustment = (ap from_bits (word 3 (omega arith)) ∙ float_back e.first_adjustment h.first) j;
+      adjustment = (ap from_bits (word 4 (omega arith)) ∙ float_back e.adjustment h.final) j;
+      fallback_within_moves = (ap from_bits (word 5 (omega arith)) ∙ float_back e.fallback_within_moves h.share) j;
       status = word 6 (omega arith) j;
     }
 
 -- e itself, if its zeros are plus zero
 pub row_same : (t : List ℕ) (i : ℕ) (e : StateEstimate) → Held e → 7 * i + 7 ≤ length t
-    → plusZero e.first_adjustment ≡ e.first_adjustment
-    → plusZero e.adjustment ≡ e.adjustment
-    → plusZero e.fallback_within_moves ≡ e.fallback_within_moves
-    → row_at (sets t (7 * i) (rowWords e)) i ≡ e
+    → plus_zero e.first_adjustment ≡ e.first_adjustment
+    → plus_zero e.adjustment ≡ e.adjustment
+    → plus_zero e.fallback_within_moves ≡ e.fallback_within_moves
+    → row_at (sets t (7 * i) (row_words e)) i ≡ e
 row_same t i e h r first final share =
     row_back t i e h r
     ∙ (λ j.
@@ -100,22 +100,22 @@ row_same t i e h r first final share =
     })
 
 -- no word outside the row changes
-pub word-elsewhere : (t : List ℕ) (i : ℕ) (e : StateEstimate) (j : ℕ) → (j < 7 * i) ⊎ (7 * i + 7 ≤ j) → get_or (sets t (7 * i) (rowWords e)) j 0 ≡ get_or t j 0
-word-elsewhere t i e j (inl h) = sets_below 0 (rowWords e) t (7 * i) j h
-word-elsewhere t i e j (inr h) = sets-above 0 (rowWords e) t (7 * i) j h
+pub word-elsewhere : (t : List ℕ) (i : ℕ) (e : StateEstimate) (j : ℕ) → (j < 7 * i) ⊎ (7 * i + 7 ≤ j) → get_or (sets t (7 * i) (row_words e)) j 0 ≡ get_or t j 0
+word-elsewhere t i e j (inl h) = sets_below 0 (row_words e) t (7 * i) j h
+word-elsewhere t i e j (inr h) = sets-above 0 (row_words e) t (7 * i) j h
 
 -- nor does the row of another state
-pub row-elsewhere : (t : List ℕ) (i j : ℕ) (e : StateEstimate) → j ≢ i → row_at (sets t (7 * i) (rowWords e)) j ≡ row_at t j
+pub row-elsewhere : (t : List ℕ) (i j : ℕ) (e : StateEstimate) → j ≢ i → row_at (sets t (7 * i) (row_words e)) j ≡ row_at t j
 row-elsewhere t i j e n =
-    let word : (k : ℕ) → k < 7 → rowWord (sets t (7 * i) (rowWords e)) j k ≡ rowWord t j k = λ k b. word-elsewhere t i e (7 * j + k) (outside k b) in
+    let word : (k : ℕ) → k < 7 → row_word (sets t (7 * i) (row_words e)) j k ≡ row_word t j k = λ k b. word-elsewhere t i e (7 * j + k) (outside k b) in
     λ m.
     record {
       imbalance_bucket = word 0 (omega arith) m;
       spread_ticks = word 1 (omega arith) m;
       observations = word 2 (omega arith) m;
-      first_adjustment = fromBits (word 3 (omega arith) m);
-      adjustment = fromBits (word 4 (omega arith) m);
-      fallback_within_moves = fromBits (word 5 (omega arith) m);
+      first_adjustment = from_bits (word 3 (omega arith) m);
+      adjustment = from_bits (word 4 (omega arith) m);
+      fallback_within_moves = from_bits (word 5 (omega arith) m);
       status = word 6 (omega arith) m;
     }
   where
@@ -127,21 +127,21 @@ row-elsewhere t i j e n =
         at (inr l) = inl (omega arith)
 
 -- the table keeps its length
-pub length-written : (t : List ℕ) (i : ℕ) (e : StateEstimate) → length (sets t (7 * i) (rowWords e)) ≡ length t
-length-written t i e = length-sets t (7 * i) (rowWords e)
+pub length-written : (t : List ℕ) (i : ℕ) (e : StateEstimate) → length (sets t (7 * i) (row_words e)) ≡ length t
+length-written t i e = length-sets t (7 * i) (row_words e)
 
 -- ---- writing what was read
 
 -- the bits of a float that is neither NaN nor minus zero
 pub record Plain (b : ℕ) : Type 0 where
   pub word : b < 2 ^ 64
-  pub no_nan : T (not (is_nan (fromBits b)))
-  pub zero-plus : plusZero (fromBits b) ≡ fromBits b
+  pub no_nan : T (not (is_nan (from_bits b)))
+  pub zero-plus : plus_zero (from_bits b) ≡ from_bits b
 
-word_back : (b : ℕ) → Plain b → floatWord (fromBits b) ≡ b
-word_back b p = ap toBits p.zero-plus ∙ to_bits-of_bits binary64 b p.word p.no_nan
+word_back : (b : ℕ) → Plain b → float_word (from_bits b) ≡ b
+word_back b p = ap bits_of p.zero-plus ∙ to_bits-of_bits binary64 b p.word p.no_nan
 
 -- the words of an estimate that was read are the row's
-pub words_back : (t : List ℕ) (i : ℕ) → Plain (rowWord t i 3) → Plain (rowWord t i 4) → Plain (rowWord t i 5)
-    → rowWords (row_at t i) ≡ rowWord t i 0 ∷ rowWord t i 1 ∷ rowWord t i 2 ∷ rowWord t i 3 ∷ rowWord t i 4 ∷ rowWord t i 5 ∷ rowWord t i 6 ∷ []
+pub words_back : (t : List ℕ) (i : ℕ) → Plain (row_word t i 3) → Plain (row_word t i 4) → Plain (row_word t i 5)
+    → row_words (row_at t i) ≡ row_word t i 0 ∷ row_word t i 1 ∷ row_word t i 2 ∷ row_word t i 3 ∷ row_word t i 4 ∷ row_word t i 5 ∷ row_word t i 6 ∷ []
 words_back t i first final share = rw (word_back _ first, word_back _ final, word_back _ share)

@@ -4,8 +4,8 @@ use Rattle.model.specs.declared.StateStatus.{StateStatus}
 use Rattle.model.specs.declared.StateStatus.TheVariants.{Calibrated, Rare, NoPriceMove, OutsideQuotes}
 
 -- status 0 Calibrated, 1 Rare, 2 NoPriceMove, 3 OutsideQuotes
-abbrev pub statusNumber : StateStatus → ℕ
-statusNumber Calibrated = 0
-statusNumber Rare = 1
-statusNumber NoPriceMove = 2
-statusNumber OutsideQuotes = 3
+abbrev pub status_number : StateStatus → ℕ
+status_number Calibrated = 0
+status_number Rare = 1
+status_number NoPriceMove = 2
+status_number OutsideQuotes = 3

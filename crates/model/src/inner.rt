@@ -2,13 +2,13 @@
 ghost use Rattle.std.specs.Prelude.{◌≡◌, ◌+◌, ◌*◌, ◌≤◌, length};
 ghost use Rattle.std.proofs.lemmas.List.Edits.{sets};
 ghost use Rattle.basics.specs.Loan.{given, final};
-ghost use Rattle.model.specs.Rows.{floatWord, rowWords, row_at};
-ghost use Rattle.model.specs.Status.{statusNumber};
+ghost use Rattle.model.specs.Rows.{float_word, row_words, row_at};
+ghost use Rattle.model.specs.Status.{status_number};
 
 use super::{StateEstimate, StateStatus};
 
 pub fn status_number(s: StateStatus) -> u64
-    ensures { result ≡ statusNumber s }
+    ensures { result ≡ status_number s }
 {
     match s {
         StateStatus::Calibrated => 0,
@@ -20,7 +20,7 @@ pub fn status_number(s: StateStatus) -> u64
 
 // A float's word, zero as plus zero.
 fn float_word(x: f64) -> u64
-    ensures { result ≡ floatWord x }
+    ensures { result ≡ float_word x }
 {
     floats::to_bits(floats::plus_zero(x))
 }
@@ -28,7 +28,7 @@ fn float_word(x: f64) -> u64
 // Writes the row of state i.
 pub fn write_row(model: &mut [u64], i: usize, e: StateEstimate)
     requires { 7 * i + 7 ≤ length model.old }
-    ensures { final model ≡ sets (given model) (7 * i) (rowWords e) }
+    ensures { final model ≡ sets (given model) (7 * i) (row_words e) }
 {
     let first_adjustment = float_word(e.first_adjustment);
     let adjustment = float_word(e.adjustment);

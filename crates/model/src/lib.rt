@@ -1,7 +1,9 @@
 // A fitted model: the estimate of each state (document 01, "The fit", "Model and signal").
+#![tactic(auto)]
+
 pub mod inner;
 
-// Whether a state's adjustment is used: `statusNumber` of specs/Status.antt.
+// Whether a state's adjustment is used: `status_number` of specs/Status.antt.
 #[derive(Drop)]
 pub enum StateStatus {
     // The adjustment is estimated and used.

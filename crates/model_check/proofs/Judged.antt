@@ -5,19 +5,19 @@ use mathlib.Core.Bool.{Bool, true, false, not}
 use mathlib.Core.List.{List}
 use lib.ListN.{length}
 use borrow.Author.Tests.{not-true, not-false, eq-eqb, ne_eqb}
-use Rattle.refusals.specs.Refusals.{refuseIf, first_of}
+use Rattle.refusals.specs.Refusals.{refuse_if, first_of}
 use Rattle.refusals.specs.declared.Check.{Check}
 use Rattle.refusals.specs.declared.Check.TheVariants.{Refused}
 use Rattle.refusals.specs.declared.Refusal.TheVariants.{Configuration, SliceLength}
-use Rattle.config.specs.Configuration.{states, valid, checkConfig}
+use Rattle.config.specs.Configuration.{states, valid, check_config}
 use Rattle.config.specs.Inner.{Valid}
 use Rattle.config.specs.declared.MicroPriceConfig.{MicroPriceConfig}
 use Rattle.config.proofs.Known.{valid-known}
-use Rattle.model_check.specs.Check.{wrongLength}
+use Rattle.model_check.specs.Check.{wrong_length}
 
 -- 1, 7, then what k refuses
 abbrev judged : MicroPriceConfig → List ℕ → Check → Check
-judged c t k = first_of (checkConfig c) (first_of (refuseIf (wrongLength c t) 7) k)
+judged c t k = first_of (check_config c) (first_of (refuse_if (wrong_length c t) 7) k)
 
 -- b is the test of the configuration
 module _ (c : MicroPriceConfig) {b : Bool} (test : b ≡ valid c) where

@@ -1,13 +1,13 @@
 // Inner functions of the model check; `half_spread_of` is for the signal. Where one has a `requires`, each caller proves it.
 ghost use Rattle.std.specs.Prelude.{◌≡◌, ◌&&◌, ℕ, ◌*◌, ◌<◌, length};
 ghost use Rattle.basics.specs.Loan.{given};
-ghost use Rattle.refusals.specs.Refusals.{firstFrom};
+ghost use Rattle.refusals.specs.Refusals.{first_from};
 ghost use Rattle.config.specs.Configuration.{states};
 ghost use Rattle.config.specs.Inner.{Valid};
 ghost use Rattle.config.specs.declared.MicroPriceConfig.{MicroPriceConfig};
-ghost use Rattle.floats.specs.Floats.{minusZero};
+ghost use Rattle.floats.specs.Floats.{minus_zero};
 ghost use Rattle.quotes.specs.Inner.{HasLevel};
-ghost use Rattle.model_check.specs.Check.{halfSpreadOf, bucketIs, spreadIs, floatsFinite, noMinusZero, shareInRange, insideQuotes, outsideQuotes, fallbackAtMid, stateMirrors, rowFine, checkRow};
+ghost use Rattle.model_check.specs.Check.{half_spread_of, bucket_is, spread_is, floats_finite, no_minus_zero, share_in_range, inside_quotes, outside_quotes, fallback_at_mid, state_mirrors, row_fine, check_row};
 
 use config::MicroPriceConfig;
 use model::StateEstimate;
@@ -15,7 +15,7 @@ use quotes::inner::Level;
 use refusals::{Check, Refusal};
 
 fn is_minus_zero(x: f64) -> bool
-    ensures { result ≡ minusZero x }
+    ensures { result ≡ minus_zero x }
 {
     floats::to_bits(x) == 0x8000_0000_0000_0000
 }
@@ -23,7 +23,7 @@ fn is_minus_zero(x: f64) -> bool
 // Half the spread of state i.
 pub fn half_spread_of(config: MicroPriceConfig, i: usize) -> f64
     requires { Valid config × (i < states config) }
-    ensures { result ≡ halfSpreadOf config i }
+    ensures { result ≡ half_spread_of config i }
 {
     let n = config.imbalance_buckets as usize;
     floats::inner::half_spread(config.tick_size, (i / n + 1) as u64)
@@ -31,13 +31,13 @@ pub fn half_spread_of(config: MicroPriceConfig, i: usize) -> f64
 
 fn is_placed(config: MicroPriceConfig, level: Level, i: usize, e: StateEstimate) -> bool
     requires { HasLevel config.imbalance_buckets level i × (i < 256) }
-    ensures { result ≡ (bucketIs config i e && spreadIs config i e) }
+    ensures { result ≡ (bucket_is config i e && spread_is config i e) }
 {
     (e.imbalance_bucket == (i - level.first + 1) as u64) & (e.spread_ticks == level.spread)
 }
 
 fn floats_finite(e: StateEstimate) -> bool
-    ensures { result ≡ floatsFinite e }
+    ensures { result ≡ floats_finite e }
 {
     floats::is_finite(e.first_adjustment)
         & floats::is_finite(e.adjustment)
@@ -45,7 +45,7 @@ fn floats_finite(e: StateEstimate) -> bool
 }
 
 fn no_minus_zero(e: StateEstimate) -> bool
-    ensures { result ≡ noMinusZero e }
+    ensures { result ≡ no_minus_zero e }
 {
     !is_minus_zero(e.first_adjustment)
         & !is_minus_zero(e.adjustment)
@@ -53,7 +53,7 @@ fn no_minus_zero(e: StateEstimate) -> bool
 }
 
 fn state_values_are_consistent(e: StateEstimate) -> bool
-    ensures { result ≡ (shareInRange e && fallbackAtMid e) }
+    ensures { result ≡ (share_in_range e && fallback_at_mid e) }
 {
     let share = e.fallback_within_moves;
     (0.0 <= share)
@@ -63,14 +63,14 @@ fn state_values_are_consistent(e: StateEstimate) -> bool
 
 // Whether the adjustment is within half the spread, or outside, as the status says.
 fn is_on_its_side(half: f64, e: StateEstimate) -> bool
-    ensures { (config : MicroPriceConfig) (i : ℕ) → half ≡ halfSpreadOf config i → result ≡ (insideQuotes config i e && outsideQuotes config i e) }
+    ensures { (config : MicroPriceConfig) (i : ℕ) → half ≡ half_spread_of config i → result ≡ (inside_quotes config i e && outside_quotes config i e) }
 {
     let size = floats::abs(e.adjustment);
     ((e.status != 0) | (size <= half)) & ((e.status != 3) | (half < size))
 }
 
 fn state_mirrors(e: StateEstimate, mirror: StateEstimate) -> bool
-    ensures { result ≡ stateMirrors e mirror }
+    ensures { result ≡ state_mirrors e mirror }
 {
     (e.status == mirror.status)
         & (e.observations == mirror.observations)
@@ -86,7 +86,7 @@ fn row_fine(
     mirror: StateEstimate,
 ) -> bool
     requires { Valid config × HasLevel config.imbalance_buckets level i × (i < states config) }
-    ensures { result ≡ rowFine config i e mirror }
+    ensures { result ≡ row_fine config i e mirror }
 {
     let half = floats::inner::half_spread(config.tick_size, level.spread);
     is_placed(config, level, i, e)
@@ -101,7 +101,7 @@ fn row_fine(
 // Row i, of a state whose spread level is known.
 fn check_row(config: MicroPriceConfig, model: &[u64], level: Level, i: usize) -> Check
     requires { Valid config × (length model.now ≡ 7 * states config) × HasLevel config.imbalance_buckets level i × (i < states config) }
-    ensures { result ≡ checkRow config (given model) i }
+    ensures { result ≡ check_row config (given model) i }
 {
     let m = quotes::inner::mirror_in(config.imbalance_buckets as usize, level.first, i);
     let e = model::inner::read_row(model, i);
@@ -115,7 +115,7 @@ fn check_row(config: MicroPriceConfig, model: &[u64], level: Level, i: usize) ->
 // All rows, in one walk that knows the spread level of each state.
 pub fn check_rows(config: MicroPriceConfig, model: &[u64], n: usize) -> Check
     requires { Valid config × (length model.now ≡ 7 * states config) × (n ≡ states config) }
-    ensures { result ≡ firstFrom (checkRow config (given model)) 0 n }
+    ensures { result ≡ first_from (check_row config (given model)) 0 n }
 {
     let w = config.imbalance_buckets as usize;
     let mut level = Level {

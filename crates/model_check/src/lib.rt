@@ -1,16 +1,18 @@
 // The model check (document 01, "Model and signal").
+#![tactic(auto)]
+
 pub mod inner;
 
 ghost use Rattle.std.specs.Prelude.{◌≡◌};
 ghost use Rattle.basics.specs.Loan.{given};
-ghost use Rattle.model_check.specs.Check.{checkModel};
+ghost use Rattle.model_check.specs.Check.{check_model};
 
 use config::MicroPriceConfig;
 use refusals::{Check, Refusal};
 
 // Refuses a model table that is not one of the configuration, at its first bad row.
 pub fn check_model(config: MicroPriceConfig, model: &[u64]) -> Check
-    ensures { result ≡ checkModel config (given model) }
+    ensures { result ≡ check_model config (given model) }
 {
     if !config::inner::is_valid(config) {
         return Check::Refused(Refusal::Configuration);

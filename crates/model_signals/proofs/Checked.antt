@@ -9,29 +9,29 @@ use lib.Ieee.{binary64, add, eq, le}
 use lib.Ieee.Scale.{finite}
 use borrow.Author.Tests.{not-true, eqb-true}
 use Rattle.basics.proofs.Tests.{zero-not-one, both}
-use Rattle.floats.specs.Floats.{posZero, abs, minusZero}
+use Rattle.floats.specs.Floats.{pos_zero, abs, minus_zero}
 use Rattle.model.specs.Rows.{row_at}
 use Rattle.model.specs.declared.StateEstimate.{StateEstimate}
 use Rattle.model.specs.declared.StateStatus.TheVariants.{Calibrated}
 use Rattle.model.proofs.Rows.{row-held}
-use Rattle.refusals.specs.Refusals.{refuseIf, first_of, firstFrom}
+use Rattle.refusals.specs.Refusals.{refuse_if, first_of, first_from}
 use Rattle.refusals.specs.declared.Check.{Check}
 use Rattle.refusals.specs.declared.Check.TheVariants as Check
 use Rattle.refusals.specs.declared.Refusal.TheVariants.{ModelRow}
 use Rattle.refusals.proofs.Refusals.{first_fine, from-fine}
-use Rattle.config.specs.Configuration.{states, valid, checkConfig}
+use Rattle.config.specs.Configuration.{states, valid, check_config}
 use Rattle.config.specs.Inner.{Valid}
 use Rattle.config.specs.declared.MicroPriceConfig.{MicroPriceConfig}
 use Rattle.config.proofs.Known.{valid-known}
-use Rattle.quotes.specs.Quotes.{overDomain, badQuote, offTick, checkQuote, exchanged}
-use Rattle.quotes.specs.States.{mirrorOf, place_of}
+use Rattle.quotes.specs.Quotes.{over_domain, bad_quote, off_tick, check_quote, exchanged}
+use Rattle.quotes.specs.States.{mirror_of, place_of}
 use Rattle.quotes.specs.declared.Place.{Place}
 use Rattle.quotes.specs.declared.Place.TheVariants.{State, NoState}
 use Rattle.quotes.specs.declared.TopOfBook.{TopOfBook}
 use Rattle.quotes.proofs.States.{place-located, state-located}
-use Rattle.model_check.specs.Check.{halfSpreadOf, hasStatus, bucketIs, spreadIs, statusKnown, floatsFinite, noMinusZero, shareInRange, fallbackAtMid, insideQuotes, outsideQuotes, stateMirrors, rowFine, checkRow, wrongLength, checkModel}
+use Rattle.model_check.specs.Check.{half_spread_of, has_status, bucket_is, spread_is, status_known, floats_finite, no_minus_zero, share_in_range, fallback_at_mid, inside_quotes, outside_quotes, state_mirrors, row_fine, check_row, wrong_length, check_model}
 use Rattle.model_signals.specs.Claims.{RowsMirror, AnswersMirror}
-use Rattle.model_signals.specs.Signal.{rowServes, adjustmentOf, source_of, sent, signalAt, sentUnless, signalRefusal, signalOf}
+use Rattle.model_signals.specs.Signal.{row_serves, adjustment_of, source_of, sent, signal_at, sent_unless, signal_refusal, signal_of}
 use Rattle.model_signals.specs.declared.Signalled.TheVariants.{Refused}
 use Rattle.model_signals.proofs.Exchanged.{signal-exchanged}
 use Rattle.model_signals.proofs.Usable.{unrefused}
@@ -41,60 +41,60 @@ use Rattle.floats.proofs.Zeros.{sum-zero, plus-sum}
 
 -- what the theorems below use of a row's rules
 record Ruled (c : MicroPriceConfig) (i : ℕ) (e mirror : StateEstimate) : Type 0 where
-  status : statusKnown e ≡ true
-  floats : floatsFinite e ≡ true
-  zeros : noMinusZero e ≡ true
-  inside : insideQuotes c i e ≡ true
-  mirrors : stateMirrors e mirror ≡ true
+  status : status_known e ≡ true
+  floats : floats_finite e ≡ true
+  zeros : no_minus_zero e ≡ true
+  inside : inside_quotes c i e ≡ true
+  mirrors : state_mirrors e mirror ≡ true
 
-ruled : (c : MicroPriceConfig) (i : ℕ) (e mirror : StateEstimate) → rowFine c i e mirror ≡ true → Ruled c i e mirror
-unfolding rowFine
+ruled : (c : MicroPriceConfig) (i : ℕ) (e mirror : StateEstimate) → row_fine c i e mirror ≡ true → Ruled c i e mirror
+unfolding row_fine
 ruled c i e mirror h =
-    let placed = bucketIs c i e && spreadIs c i e in
-    let values = shareInRange e && fallbackAtMid e in
-    let sides = insideQuotes c i e && outsideQuotes c i e in
-    let k1 = both (placed && statusKnown e && floatsFinite e && noMinusZero e && values && sides) (stateMirrors e mirror) h in
-    let k2 = both (placed && statusKnown e && floatsFinite e && noMinusZero e && values) sides k1.0 in
-    let k3 = both (placed && statusKnown e && floatsFinite e && noMinusZero e) values k2.0 in
-    let k4 = both (placed && statusKnown e && floatsFinite e) (noMinusZero e) k3.0 in
-    let k5 = both (placed && statusKnown e) (floatsFinite e) k4.0 in
+    let placed = bucket_is c i e && spread_is c i e in
+    let values = share_in_range e && fallback_at_mid e in
+    let sides = inside_quotes c i e && outside_quotes c i e in
+    let k1 = both (placed && status_known e && floats_finite e && no_minus_zero e && values && sides) (state_mirrors e mirror) h in
+    let k2 = both (placed && status_known e && floats_finite e && no_minus_zero e && values) sides k1.0 in
+    let k3 = both (placed && status_known e && floats_finite e && no_minus_zero e) values k2.0 in
+    let k4 = both (placed && status_known e && floats_finite e) (no_minus_zero e) k3.0 in
+    let k5 = both (placed && status_known e) (floats_finite e) k4.0 in
     record {
-      status = (both placed (statusKnown e) k5.0).1;
+      status = (both placed (status_known e) k5.0).1;
       floats = k5.1;
       zeros = k4.1;
-      inside = (both (insideQuotes c i e) (outsideQuotes c i e) k2.1).0;
+      inside = (both (inside_quotes c i e) (outside_quotes c i e) k2.1).0;
       mirrors = k1.1;
     }
 
-adjustment-finite : (e : StateEstimate) → floatsFinite e ≡ true → finite e.adjustment ≡ true
+adjustment-finite : (e : StateEstimate) → floats_finite e ≡ true → finite e.adjustment ≡ true
 adjustment-finite e h =
     (both (finite e.first_adjustment) (finite e.adjustment)
     (both (finite e.first_adjustment && finite e.adjustment) (finite e.fallback_within_moves) h).0).1
 
-adjustment-plus : (e : StateEstimate) → noMinusZero e ≡ true → minusZero e.adjustment ≡ false
+adjustment-plus : (e : StateEstimate) → no_minus_zero e ≡ true → minus_zero e.adjustment ≡ false
 adjustment-plus e h =
-    let first = not (minusZero e.first_adjustment) in
-    let final = not (minusZero e.adjustment) in
-    not-true (minusZero e.adjustment) (both first final (both (first && final) (not (minusZero e.fallback_within_moves)) h).0).1
+    let first = not (minus_zero e.first_adjustment) in
+    let final = not (minus_zero e.adjustment) in
+    not-true (minus_zero e.adjustment) (both first final (both (first && final) (not (minus_zero e.fallback_within_moves)) h).0).1
 
 -- the check's rules on a row give the signal's
-fine-serves : (c : MicroPriceConfig) (i : ℕ) (e mirror : StateEstimate) → rowFine c i e mirror ≡ true → rowServes c i e ≡ true
-unfolding rowServes
+fine-serves : (c : MicroPriceConfig) (i : ℕ) (e mirror : StateEstimate) → row_fine c i e mirror ≡ true → row_serves c i e ≡ true
+unfolding row_serves
 fine-serves c i e mirror h =
     let r = ruled c i e mirror h in
-    (λ d. r.status d && (not (hasStatus Calibrated e) || (adjustment-finite e r.floats d && le (abs e.adjustment) (halfSpreadOf c i))))
+    (λ d. r.status d && (not (has_status Calibrated e) || (adjustment-finite e r.floats d && le (abs e.adjustment) (half_spread_of c i))))
     ∙ r.inside
 
 -- and that it mirrors the mirror's row
-fine-mirrors : (c : MicroPriceConfig) (t : List ℕ) (i j : ℕ) → rowFine c i (row_at t i) (row_at t j) ≡ true → RowsMirror (row_at t i) (row_at t j)
+fine-mirrors : (c : MicroPriceConfig) (t : List ℕ) (i j : ℕ) → row_fine c i (row_at t i) (row_at t j) ≡ true → RowsMirror (row_at t i) (row_at t j)
 fine-mirrors c t i j h =
     let e : StateEstimate = row_at t i in
     let m : StateEstimate = row_at t j in
     let r = ruled c i e m h in
     let status = eqb e.status m.status in
     let counts = eqb e.observations m.observations in
-    let final = eq (add binary64 e.adjustment m.adjustment) posZero in
-    let k = both (status && counts && final) (eq (add binary64 e.first_adjustment m.first_adjustment) posZero) r.mirrors in
+    let final = eq (add binary64 e.adjustment m.adjustment) pos_zero in
+    let k = both (status && counts && final) (eq (add binary64 e.first_adjustment m.first_adjustment) pos_zero) r.mirrors in
     let n = both (status && counts) final k.0 in
     let z = sum-zero e.adjustment m.adjustment (row-held t i).final (row-held t j).final n.1 in
     record {
@@ -105,56 +105,56 @@ fine-mirrors c t i j h =
 -- ---- the table
 
 -- where each row serves, no quote's signal is refused by 13
-pub all-served : (c : MicroPriceConfig) (t : List ℕ) → ((i : ℕ) → i < states c → rowServes c i (row_at t i) ≡ true) → (q : TopOfBook) (i : ℕ)
-    → signalOf c t q ≡ Refused (ModelRow i) → ⊥
-all-served c t serves q i e = go (signalRefusal c t q) refl e
+pub all-served : (c : MicroPriceConfig) (t : List ℕ) → ((i : ℕ) → i < states c → row_serves c i (row_at t i) ≡ true) → (q : TopOfBook) (i : ℕ)
+    → signal_of c t q ≡ Refused (ModelRow i) → ⊥
+all-served c t serves q i e = go (signal_refusal c t q) refl e
   where
-    quote : (a b d : Bool) → first_of (refuseIf a 2) (first_of (refuseIf b 3) (refuseIf d 4)) ≡ Check.Refused (ModelRow i) → ⊥
+    quote : (a b d : Bool) → first_of (refuse_if a 2) (first_of (refuse_if b 3) (refuse_if d 4)) ≡ Check.Refused (ModelRow i) → ⊥
     quote true b d k = zero-not-one cc
     quote false true d k = zero-not-one cc
     quote false false true k = zero-not-one cc
     quote false false false k = zero-not-one cc
 
-    no_row : (a b : Bool) (k : Check) → (k ≡ Check.Refused (ModelRow i) → ⊥) → first_of (refuseIf a 1) (first_of (refuseIf b 7) k) ≡ Check.Refused (ModelRow i)
+    no_row : (a b : Bool) (k : Check) → (k ≡ Check.Refused (ModelRow i) → ⊥) → first_of (refuse_if a 1) (first_of (refuse_if b 7) k) ≡ Check.Refused (ModelRow i)
         → ⊥
     no_row true b k n f = zero-not-one cc
     no_row false true k n f = zero-not-one cc
     no_row false false k n f = n f
 
-    place : (p : Place) → Valid c → place_of c q ≡ p → signalAt c t q p ≡ Refused (ModelRow i) → ⊥
+    place : (p : Place) → Valid c → place_of c q ≡ p → signal_at c t q p ≡ Refused (ModelRow i) → ⊥
     place (State a) v p k =
         let s = serves a.state (place-located c q v a p).below in
-        let f : sent q (adjustmentOf (row_at t a.state)) (source_of (row_at t a.state).status) ≡ Refused (ModelRow i) = rw s at k in
+        let f : sent q (adjustment_of (row_at t a.state)) (source_of (row_at t a.state).status) ≡ Refused (ModelRow i) = rw s at k in
         zero-not-one (cc f)
     place (NoState r) v p k = zero-not-one cc
 
-    go : (k : Check) → signalRefusal c t q ≡ k → sentUnless k (signalAt c t q (place_of c q)) ≡ Refused (ModelRow i) → ⊥
+    go : (k : Check) → signal_refusal c t q ≡ k → sent_unless k (signal_at c t q (place_of c q)) ≡ Refused (ModelRow i) → ⊥
     go Check.Fine r k = place (place_of c q) (valid-known c (unrefused c t q r).config) refl k
     go (Check.Refused x) r k =
         let f : Check.Refused x ≡ Check.Refused (ModelRow i) = cc in
-        no_row (not (valid c)) (wrongLength c t) (checkQuote c q) (quote (overDomain q) (badQuote q) (offTick c q)) (r ∙ f)
+        no_row (not (valid c)) (wrong_length c t) (check_quote c q) (quote (over_domain q) (bad_quote q) (off_tick c q)) (r ∙ f)
 
-row_fine : (b : Bool) (i : ℕ) → cond b Check.Fine (Check.Refused (ModelRow i)) ≡ Check.Fine → b ≡ true
-row_fine true i e = refl
-row_fine false i e = absurd (zero-not-one cc)
+row_fine_lem : (b : Bool) (i : ℕ) → cond b Check.Fine (Check.Refused (ModelRow i)) ≡ Check.Fine → b ≡ true
+row_fine_lem true i e = refl
+row_fine_lem false i e = absurd (zero-not-one cc)
 
-module _ (c : MicroPriceConfig) (t : List ℕ) (h : checkModel c t ≡ Check.Fine) where
-  rows-fine : (i : ℕ) → i < states c → rowFine c i (row_at t i) (row_at t (mirrorOf c.imbalance_buckets i)) ≡ true
+module _ (c : MicroPriceConfig) (t : List ℕ) (h : check_model c t ≡ Check.Fine) where
+  rows-fine : (i : ℕ) → i < states c → row_fine c i (row_at t i) (row_at t (mirror_of c.imbalance_buckets i)) ≡ true
   rows-fine i l =
-      let a = first_fine (checkConfig c) (first_of (refuseIf (wrongLength c t) 7) (firstFrom (checkRow c t) 0 (states c))) h in
-      let b = first_fine (refuseIf (wrongLength c t) 7) (firstFrom (checkRow c t) 0 (states c)) a.1 in
-      row_fine _ i (from-fine (checkRow c t) 0 (states c) b.1 i (omega arith) (omega arith))
+      let a = first_fine (check_config c) (first_of (refuse_if (wrong_length c t) 7) (first_from (check_row c t) 0 (states c))) h in
+      let b = first_fine (refuse_if (wrong_length c t) 7) (first_from (check_row c t) 0 (states c)) a.1 in
+      row_fine_lem _ i (from-fine (check_row c t) 0 (states c) b.1 i (omega arith) (omega arith))
 
   -- a state's row and its mirror's
-  pub checked-mirrored : (i : ℕ) → i < states c → RowsMirror (row_at t i) (row_at t (mirrorOf c.imbalance_buckets i))
-  checked-mirrored i l = fine-mirrors c t i (mirrorOf c.imbalance_buckets i) (rows-fine i l)
+  pub checked-mirrored : (i : ℕ) → i < states c → RowsMirror (row_at t i) (row_at t (mirror_of c.imbalance_buckets i))
+  checked-mirrored i l = fine-mirrors c t i (mirror_of c.imbalance_buckets i) (rows-fine i l)
 
   -- no quote's signal is refused by 13
-  pub checked-served : (q : TopOfBook) (i : ℕ) → signalOf c t q ≡ Refused (ModelRow i) → ⊥
+  pub checked-served : (q : TopOfBook) (i : ℕ) → signal_of c t q ≡ Refused (ModelRow i) → ⊥
   checked-served = all-served c t (λ i l. fine-serves c i (row_at t i) _ (rows-fine i l))
 
   -- the signals of a quote and of the same with its sizes exchanged
-  pub checked-exchanged : (q : TopOfBook) → AnswersMirror (signalOf c t q) (signalOf c t (exchanged q))
+  pub checked-exchanged : (q : TopOfBook) → AnswersMirror (signal_of c t q) (signal_of c t (exchanged q))
   checked-exchanged q =
       signal-exchanged c t q
       (λ a s.

@@ -3,13 +3,13 @@ use Prim.Native.Nat.{ℕ}
 use mathlib.Core.Path.{◌≡◌, refl}
 use mathlib.Core.List.{List, [], ◌∷◌, ◌++◌}
 use lib.Ieee.{Float, add, lt, le, eq, of_bits, to_bits}
-use Rattle.floats.specs.Floats.{posZero, abs, half, fromBits}
+use Rattle.floats.specs.Floats.{pos_zero, abs, half, from_bits}
 use Rattle.model.specs.declared.StateStatus.TheVariants.{Rare}
 use Rattle.refusals.specs.declared.Check.TheVariants.{Fine}
 use Rattle.quotes.specs.declared.TopOfBook.{TopOfBook}
 use Rattle.quotes.proofs.Marked.{marked}
-use Rattle.model_check.specs.Check.{rowFine, checkModel}
-use Rattle.model_signals.specs.Signal.{rowServes, signalOf}
+use Rattle.model_check.specs.Check.{row_fine, check_model}
+use Rattle.model_signals.specs.Signal.{row_serves, signal_of}
 use Rattle.model_signals.specs.declared.Signalled.{Signalled}
 use Rattle.model_signals.specs.declared.Signalled.TheVariants.{Sent}
 use Rattle.model_signals.specs.declared.SignalSource.{SignalSource}
@@ -35,18 +35,18 @@ quote ask x y = record { timestamp_ms = 7; bid = 100; ask = ask; bid_size = x; a
 abbrev signal : ℕ → Float → SignalSource → Signalled
 signal mid-sum adjustment source = Sent (record { timestamp_ms = 7; mid_sum = mid-sum; adjustment = adjustment; source = source })
 
-pub printed-checked : checkModel (marked 1) table ≡ Fine
-unfolding rowFine abs half add lt le eq of_bits to_bits
+pub printed-checked : check_model (marked 1) table ≡ Fine
+unfolding row_fine abs half add lt le eq of_bits to_bits
 printed-checked = refl
 
 -- not at the mid
-pub printed-micro : signalOf (marked 1) table (quote 101 9 1) ≡ signal 201 (fromBits 0x3fe0_0000_0000_0000) MicroPrice
-unfolding rowServes abs half le of_bits
+pub printed-micro : signal_of (marked 1) table (quote 101 9 1) ≡ signal 201 (from_bits 0x3fe0_0000_0000_0000) MicroPrice
+unfolding row_serves abs half le of_bits
 printed-micro = refl
 
-pub printed-rare : signalOf (marked 1) table (quote 102 5 5) ≡ signal 202 posZero (MidFallback Rare)
-unfolding rowServes abs half le of_bits
+pub printed-rare : signal_of (marked 1) table (quote 102 5 5) ≡ signal 202 pos_zero (MidFallback Rare)
+unfolding row_serves abs half le of_bits
 printed-rare = refl
 
-pub printed-wide : signalOf (marked 1) table (quote 103 5 5) ≡ signal 203 posZero SpreadOutOfRange
+pub printed-wide : signal_of (marked 1) table (quote 103 5 5) ≡ signal 203 pos_zero SpreadOutOfRange
 printed-wide = refl

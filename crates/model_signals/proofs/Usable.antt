@@ -6,27 +6,27 @@ use mathlib.Core.List.{List}
 use lib.ListN.{length}
 use lib.Dec.{eqb}
 use borrow.Author.Tests.{not-false, eqb-true}
-use Rattle.refusals.specs.Refusals.{refuseIf, first_of}
+use Rattle.refusals.specs.Refusals.{refuse_if, first_of}
 use Rattle.refusals.specs.declared.Check.TheVariants.{Fine}
 use Rattle.refusals.proofs.Refusals.{if-fine, first_fine}
-use Rattle.config.specs.Configuration.{states, valid, checkConfig}
+use Rattle.config.specs.Configuration.{states, valid, check_config}
 use Rattle.config.specs.declared.MicroPriceConfig.{MicroPriceConfig}
-use Rattle.quotes.specs.Quotes.{checkQuote}
+use Rattle.quotes.specs.Quotes.{check_quote}
 use Rattle.quotes.specs.declared.TopOfBook.{TopOfBook}
-use Rattle.model_check.specs.Check.{wrongLength}
-use Rattle.model_signals.specs.Signal.{signalRefusal}
+use Rattle.model_check.specs.Check.{wrong_length}
+use Rattle.model_signals.specs.Signal.{signal_refusal}
 
 pub record Usable (c : MicroPriceConfig) (t : List ℕ) (q : TopOfBook) : Type 0 where
   pub config : valid c ≡ true
   pub table : length t ≡ 7 * states c
-  pub quote : checkQuote c q ≡ Fine
+  pub quote : check_quote c q ≡ Fine
 
-pub unrefused : (c : MicroPriceConfig) (t : List ℕ) (q : TopOfBook) → signalRefusal c t q ≡ Fine → Usable c t q
+pub unrefused : (c : MicroPriceConfig) (t : List ℕ) (q : TopOfBook) → signal_refusal c t q ≡ Fine → Usable c t q
 unrefused c t q e =
-    let a = first_fine (checkConfig c) (first_of (refuseIf (wrongLength c t) 7) (checkQuote c q)) e in
-    let b = first_fine (refuseIf (wrongLength c t) 7) (checkQuote c q) a.1 in
+    let a = first_fine (check_config c) (first_of (refuse_if (wrong_length c t) 7) (check_quote c q)) e in
+    let b = first_fine (refuse_if (wrong_length c t) 7) (check_quote c q) a.1 in
     record {
       config = not-false (valid c) (if-fine (not (valid c)) 1 refl a.0);
-      table = eqb-true (length t) (7 * states c) (not-false (eqb (length t) (7 * states c)) (if-fine (wrongLength c t) 7 refl b.0));
+      table = eqb-true (length t) (7 * states c) (not-false (eqb (length t) (7 * states c)) (if-fine (wrong_length c t) 7 refl b.0));
       quote = b.1;
     }

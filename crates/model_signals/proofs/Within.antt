@@ -10,7 +10,7 @@ use lib.Ieee.{Float, nan, inf, fin, up, down, le, of_bits}
 use lib.Ieee.Fits.{down_pos}
 use lib.Ieee.Scale.{finite}
 use Rattle.basics.proofs.Tests.{zero-not-one, both}
-use Rattle.floats.specs.Floats.{posZero, abs, half, exactWhole}
+use Rattle.floats.specs.Floats.{pos_zero, abs, half, exact_whole}
 use Rattle.floats.proofs.Whole.{half-exact}
 use Rattle.floats.proofs.Within.{values-le}
 use Rattle.model.specs.Rows.{row_at}
@@ -23,7 +23,7 @@ use Rattle.config.specs.Inner.{Valid}
 use Rattle.config.specs.declared.MicroPriceConfig.{MicroPriceConfig}
 use Rattle.config.proofs.Known.{valid-known}
 use Rattle.quotes.specs.Inner.{Accepted}
-use Rattle.quotes.specs.States.{spreadIn, place_of}
+use Rattle.quotes.specs.States.{spread_in, place_of}
 use Rattle.quotes.specs.declared.At.{At}
 use Rattle.quotes.specs.declared.Place.{Place}
 use Rattle.quotes.specs.declared.Place.TheVariants.{State, NoState}
@@ -31,15 +31,15 @@ use Rattle.quotes.specs.declared.TopOfBook.{TopOfBook}
 use Rattle.quotes.proofs.Known.{fine-known}
 use Rattle.quotes.proofs.States.{place-located, place-spread}
 use Rattle.quotes.proofs.Ticks.{spread-whole}
-use Rattle.model_check.specs.Check.{halfSpreadOf, hasStatus}
+use Rattle.model_check.specs.Check.{half_spread_of, has_status}
 use Rattle.model_signals.specs.Claims.{Within}
-use Rattle.model_signals.specs.Signal.{rowServes, adjustmentOf, source_of, sent, signalAt, sentUnless, signalRefusal, signalOf}
+use Rattle.model_signals.specs.Signal.{row_serves, adjustment_of, source_of, sent, signal_at, sent_unless, signal_refusal, signal_of}
 use Rattle.model_signals.specs.declared.MicroPriceSignal.{MicroPriceSignal}
 use Rattle.model_signals.specs.declared.Signalled.TheVariants.{Sent, Refused}
 use Rattle.quotes.proofs.Widths.{width-most}
 use Rattle.model_signals.proofs.Usable.{unrefused}
 
-half-within : (q : TopOfBook) (w : ℕ) (x : Float) → w < exactWhole → w ≡ q.ask - q.bid → T (finite x) → T (le (abs x) (half w)) → Within q x
+half-within : (q : TopOfBook) (w : ℕ) (x : Float) → w < exact_whole → w ≡ q.ask - q.bid → T (finite x) → T (le (abs x) (half w)) → Within q x
 unfolding abs
 half-within q w nan l e f h = absurd f
 half-within q w (inf s) l e f h = absurd f
@@ -52,30 +52,30 @@ half-within q w (fin s m d) l e f h =
       inside = rw (← e, mul_comm 2 (m * up d)) (values-le (fin false m d) (half w) (m * up d) (down d) w 2 (refl, refl) (half-exact w l) h);
     }
 
-mid-within : (q : TopOfBook) → Within q posZero
+mid-within : (q : TopOfBook) → Within q pos_zero
 unfolding abs of_bits
 mid-within q = record { num = 0; den = 1; den-some = omega arith; size = (refl, refl); inside = omega arith }
 
 module _ (c : MicroPriceConfig) (q : TopOfBook) (v : Valid c) (f : Accepted c q) (a : At) (p : place_of c q ≡ State a) where
   abbrev width : ℕ
-  width = c.tick_size * spreadIn c.imbalance_buckets a.state
+  width = c.tick_size * spread_in c.imbalance_buckets a.state
 
   -- tick × the state's spread is ask − bid
   width_is : width ≡ q.ask - q.bid
   width_is = ap (λ (s : ℕ). c.tick_size * s) (place-spread c q v f a p) ∙ sym (spread-whole c q v f)
 
-  width-less : width < exactWhole
+  width-less : width < exact_whole
   width-less = omega (arith, width-most c v a.state (place-located c q v a p).below)
 
-  row_within : (e : StateEstimate) → rowServes c a.state e ≡ true → Within q (adjustmentOf e)
-  unfolding rowServes
-  row_within e h = go (hasStatus Calibrated e) refl
+  row_within : (e : StateEstimate) → row_serves c a.state e ≡ true → Within q (adjustment_of e)
+  unfolding row_serves
+  row_within e h = go (has_status Calibrated e) refl
     where
-      go : (z : Bool) → hasStatus Calibrated e ≡ z → Within q (cond z e.adjustment posZero)
+      go : (z : Bool) → has_status Calibrated e ≡ z → Within q (cond z e.adjustment pos_zero)
       go true z =
-          let k = (both (leb e.status 3) (not (hasStatus Calibrated e) || (finite e.adjustment && le (abs e.adjustment) (halfSpreadOf c a.state)))
+          let k = (both (leb e.status 3) (not (has_status Calibrated e) || (finite e.adjustment && le (abs e.adjustment) (half_spread_of c a.state)))
           h).1 in
-          let n = both (finite e.adjustment) (le (abs e.adjustment) (halfSpreadOf c a.state)) (rw z at k) in
+          let n = both (finite e.adjustment) (le (abs e.adjustment) (half_spread_of c a.state)) (rw z at k) in
           half-within q width e.adjustment width-less width_is (subst T (sym n.0) tt) (subst T (sym n.1) tt)
       go false z = mid-within q
 
@@ -83,19 +83,19 @@ module _ (c : MicroPriceConfig) (q : TopOfBook) (v : Valid c) (f : Accepted c q)
 sent_is : (q : TopOfBook) (m s : MicroPriceSignal) → Sent m ≡ Sent s → Within q m.adjustment → Within q s.adjustment
 sent_is q m s e w = let k : m ≡ s = cc in subst (λ (x : MicroPriceSignal). Within q x.adjustment) k w
 
-pub signal-within : (c : MicroPriceConfig) (t : List ℕ) (q : TopOfBook) (s : MicroPriceSignal) → signalOf c t q ≡ Sent s → Within q s.adjustment
-signal-within c t q s e = go (signalRefusal c t q) refl e
+pub signal-within : (c : MicroPriceConfig) (t : List ℕ) (q : TopOfBook) (s : MicroPriceSignal) → signal_of c t q ≡ Sent s → Within q s.adjustment
+signal-within c t q s e = go (signal_refusal c t q) refl e
   where
-    row : (a : At) → Valid c → Accepted c q → place_of c q ≡ State a → (b : Bool) → rowServes c a.state (row_at t a.state) ≡ b
-        → cond b (sent q (adjustmentOf (row_at t a.state)) (source_of (row_at t a.state).status)) (Refused (ModelRow a.state)) ≡ Sent s
+    row : (a : At) → Valid c → Accepted c q → place_of c q ≡ State a → (b : Bool) → row_serves c a.state (row_at t a.state) ≡ b
+        → cond b (sent q (adjustment_of (row_at t a.state)) (source_of (row_at t a.state).status)) (Refused (ModelRow a.state)) ≡ Sent s
         → Within q s.adjustment
     row a v f p true r k = sent_is q _ s k (row_within c q v f a p (row_at t a.state) r)
     row a v f p false r k = absurd (zero-not-one cc)
 
-    place : (p : Place) → Valid c → Accepted c q → place_of c q ≡ p → signalAt c t q p ≡ Sent s → Within q s.adjustment
-    place (State a) v f p k = row a v f p (rowServes c a.state (row_at t a.state)) refl k
+    place : (p : Place) → Valid c → Accepted c q → place_of c q ≡ p → signal_at c t q p ≡ Sent s → Within q s.adjustment
+    place (State a) v f p k = row a v f p (row_serves c a.state (row_at t a.state)) refl k
     place (NoState r) v f p k = sent_is q _ s k (mid-within q)
 
-    go : (k : Check) → signalRefusal c t q ≡ k → sentUnless k (signalAt c t q (place_of c q)) ≡ Sent s → Within q s.adjustment
+    go : (k : Check) → signal_refusal c t q ≡ k → sent_unless k (signal_at c t q (place_of c q)) ≡ Sent s → Within q s.adjustment
     go Check.Fine r k = let u = unrefused c t q r in place (place_of c q) (valid-known c u.config) (fine-known c q u.quote) refl k
     go (Check.Refused x) r k = absurd (zero-not-one cc)

@@ -3,7 +3,7 @@ use Rattle.std.specs.Prelude.{ℕ, ◌-◌, ◌*◌, ◌≤◌, ◌<◌, ◌≡�
 use Rattle.std.specs.Float.{binary64}
 use Rattle.std.specs.Float.Ieee.{add}
 use Rattle.std.specs.Float.Ieee.Exact.{HasValue}
-use Rattle.floats.specs.Floats.{posZero, abs}
+use Rattle.floats.specs.Floats.{pos_zero, abs}
 use Rattle.model.specs.declared.StateEstimate.{StateEstimate}
 use Rattle.refusals.specs.Refusals.{number_of}
 use Rattle.quotes.specs.declared.TopOfBook.{TopOfBook}
@@ -22,14 +22,14 @@ pub record Within (q : TopOfBook) (a : Float) : Type 0 where
 -- two rows mirror each other: the same status, and adjustments whose binary64 sum is plus zero
 pub record RowsMirror (e mirror : StateEstimate) : Type 0 where
   pub status-same : e.status ≡ mirror.status
-  pub sum-zero : add binary64 e.adjustment mirror.adjustment ≡ posZero
+  pub sum-zero : add binary64 e.adjustment mirror.adjustment ≡ pos_zero
 
 -- so do two signals: the same time, mid and source, and adjustments whose binary64 sum is plus zero
 pub record SignalsMirror (a b : MicroPriceSignal) : Type 0 where
   pub time-same : a.timestamp_ms ≡ b.timestamp_ms
   pub mid-same : a.mid_sum ≡ b.mid_sum
   pub source-same : a.source ≡ b.source
-  pub sum-zero : add binary64 a.adjustment b.adjustment ≡ posZero
+  pub sum-zero : add binary64 a.adjustment b.adjustment ≡ pos_zero
 
 -- and two answers: such signals, or refusals of the same number
 abbrev pub AnswersMirror : Signalled → Signalled → Type 0

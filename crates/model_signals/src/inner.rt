@@ -5,7 +5,7 @@ ghost use Rattle.config.specs.Configuration.{states};
 ghost use Rattle.config.specs.Inner.{Valid};
 ghost use Rattle.quotes.specs.Inner.{Accepted};
 ghost use Rattle.quotes.specs.States.{place_of};
-ghost use Rattle.model_signals.specs.Signal.{sourceNumber, rowServes, statusOf, source_of, adjustmentOf, sent, signalOfRow, signalAt};
+ghost use Rattle.model_signals.specs.Signal.{source_number, row_serves, status_of, source_of, adjustment_of, sent, signal_of_row, signal_at};
 
 use super::{MicroPriceSignal, SignalSource, Signalled};
 use config::MicroPriceConfig;
@@ -15,7 +15,7 @@ use refusals::Refusal;
 
 fn row_serves(config: MicroPriceConfig, i: usize, e: StateEstimate) -> bool
     requires { Valid config × (i < states config) }
-    ensures { result ≡ rowServes config i e }
+    ensures { result ≡ row_serves config i e }
 {
     let half = model_check::inner::half_spread_of(config, i);
     (e.status <= 3)
@@ -24,7 +24,7 @@ fn row_serves(config: MicroPriceConfig, i: usize, e: StateEstimate) -> bool
 }
 
 fn status_of(status: u64) -> StateStatus
-    ensures { result ≡ statusOf status }
+    ensures { result ≡ status_of status }
 {
     if status == 0 {
         return StateStatus::Calibrated;
@@ -48,7 +48,7 @@ fn source_of(status: u64) -> SignalSource
 }
 
 pub fn source_number(s: SignalSource) -> u64
-    ensures { result ≡ sourceNumber s }
+    ensures { result ≡ source_number s }
 {
     match s {
         SignalSource::MicroPrice => 0,
@@ -58,7 +58,7 @@ pub fn source_number(s: SignalSource) -> u64
 }
 
 fn adjustment_of(e: StateEstimate) -> f64
-    ensures { result ≡ adjustmentOf e }
+    ensures { result ≡ adjustment_of e }
 {
     if e.status == 0 {
         return e.adjustment;
@@ -86,7 +86,7 @@ fn signal_of(
 // The signal of an accepted quote in state i.
 fn signal_of_row(config: MicroPriceConfig, model: &[u64], quote: TopOfBook, i: usize) -> Signalled
     requires { Valid config × (length model.now ≡ 7 * states config) × Accepted config quote × (i < states config) }
-    ensures { result ≡ signalOfRow config (given model) quote i }
+    ensures { result ≡ signal_of_row config (given model) quote i }
 {
     let e = model::inner::read_row(model, i);
     if !row_serves(config, i, e) {
@@ -98,7 +98,7 @@ fn signal_of_row(config: MicroPriceConfig, model: &[u64], quote: TopOfBook, i: u
 // The signal of an accepted quote.
 pub fn signal_at(config: MicroPriceConfig, model: &[u64], quote: TopOfBook) -> Signalled
     requires { Valid config × (length model.now ≡ 7 * states config) × Accepted config quote }
-    ensures { result ≡ signalAt config (given model) quote (place_of config quote) }
+    ensures { result ≡ signal_at config (given model) quote (place_of config quote) }
 {
     let place = quotes::inner::place_of(config, quote);
     let Place::State(at) = place else {

@@ -1,16 +1,18 @@
 // The signal (document 01, "Model and signal").
+#![tactic(auto)]
+
 pub mod inner;
 
 ghost use Rattle.std.specs.Prelude.{◌≡◌};
 ghost use Rattle.basics.specs.Loan.{given};
-ghost use Rattle.model_signals.specs.Signal.{signalOf};
+ghost use Rattle.model_signals.specs.Signal.{signal_of};
 
 use config::MicroPriceConfig;
 use model::StateStatus;
 use quotes::TopOfBook;
 use refusals::{Check, Refusal};
 
-// Why a signal is what it is: `sourceNumber` of specs/Signal.antt.
+// Why a signal is what it is: `source_number` of specs/Signal.antt.
 #[derive(Drop)]
 pub enum SignalSource {
     // The mid plus the calibrated adjustment.
@@ -43,7 +45,7 @@ pub enum Signalled {
 
 // The signal of a quote. Of the table only the row of the quote's state is read.
 pub fn signal(config: MicroPriceConfig, model: &[u64], quote: TopOfBook) -> Signalled
-    ensures { result ≡ signalOf config (given model) quote }
+    ensures { result ≡ signal_of config (given model) quote }
 {
     if !config::inner::is_valid(config) {
         return Signalled::Refused(Refusal::Configuration);

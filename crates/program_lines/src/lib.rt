@@ -1,8 +1,10 @@
 // The lines that the evening program prints (document 01, "Marked and run"). Inner functions: for the crates above. Where one has a `requires`, each caller proves it.
+#![tactic(auto)]
+
 ghost use Rattle.std.specs.Prelude.{◌≡◌, ◌+◌, ◌*◌, ◌≤◌, ◌<◌, length};
 ghost use Rattle.basics.specs.Loan.{given, final};
-ghost use Rattle.model.specs.Rows.{rowWord};
-ghost use Rattle.program_lines.specs.Lines.{named, spaced, bits, counterLines, rowNumbers, rowFloats, row_line, row_lines, fitLines, PutIn};
+ghost use Rattle.model.specs.Rows.{row_word};
+ghost use Rattle.program_lines.specs.Lines.{named, spaced, bits, counter_lines, row_numbers, row_floats, row_line, row_lines, fit_lines, PutIn};
 
 use calibrator::Counters;
 use refusals::Check;
@@ -38,7 +40,7 @@ fn put_bits(out: &mut [u8], at: usize, w: u64) -> usize
 // Word k of row i of a model table.
 fn row_word(model: &[u64], i: usize, k: usize) -> u64
     requires { (i < 27) × (k < 7) }
-    ensures { result ≡ rowWord (given model) i k }
+    ensures { result ≡ row_word (given model) i k }
 {
     let at = 7 * i + k;
     if at < model.len() {
@@ -50,7 +52,7 @@ fn row_word(model: &[u64], i: usize, k: usize) -> u64
 // The five counters.
 pub fn put_counters(out: &mut [u8], at: usize, k: Counters, invalid: u64) -> usize
     requires { at + 138 ≤ length out.old }
-    ensures { PutIn 138 (given out) at (counterLines k.pairs k.skipped_spread_pairs k.skipped_gap_pairs k.largest_move_half_ticks invalid) result (final out) }
+    ensures { PutIn 138 (given out) at (counter_lines k.pairs k.skipped_spread_pairs k.skipped_gap_pairs k.largest_move_half_ticks invalid) result (final out) }
 {
     let a = put_named(out, at, b"pairs ", k.pairs);
     let b = put_named(out, a, b"spread ", k.skipped_spread_pairs);
@@ -62,7 +64,7 @@ pub fn put_counters(out: &mut [u8], at: usize, k: Counters, invalid: u64) -> usi
 // State, bucket, spread and observations.
 fn put_row_numbers(out: &mut [u8], at: usize, model: &[u64], i: usize) -> usize
     requires { (i < 27) × (at + 84 ≤ length out.old) }
-    ensures { PutIn 84 (given out) at (rowNumbers (given model) i) result (final out) }
+    ensures { PutIn 84 (given out) at (row_numbers (given model) i) result (final out) }
 {
     let a = put_spaced(out, at, i as u64);
     let b = put_spaced(out, a, row_word(model, i, 0));
@@ -73,7 +75,7 @@ fn put_row_numbers(out: &mut [u8], at: usize, model: &[u64], i: usize) -> usize
 // The bits of three floats.
 fn put_row_floats(out: &mut [u8], at: usize, model: &[u64], i: usize) -> usize
     requires { (i < 27) × (at + 51 ≤ length out.old) }
-    ensures { PutIn 51 (given out) at (rowFloats (given model) i) result (final out) }
+    ensures { PutIn 51 (given out) at (row_floats (given model) i) result (final out) }
 {
     let a = put_bits(out, at, row_word(model, i, 3));
     let b = put_bits(out, a, row_word(model, i, 4));
@@ -107,7 +109,7 @@ fn put_rows(out: &mut [u8], at: usize, model: &[u64], n: usize) -> usize
 // The rows of a fit, or the number of its refusal.
 pub fn put_fit(out: &mut [u8], at: usize, answer: Check, model: &[u64], n: usize) -> usize
     requires { (n ≤ 27) × (at + 4212 ≤ length out.old) }
-    ensures { PutIn 4212 (given out) at (fitLines answer (given model) n) result (final out) }
+    ensures { PutIn 4212 (given out) at (fit_lines answer (given model) n) result (final out) }
 {
     match answer {
         Check::Fine => put_rows(out, at, model, n),

@@ -1,13 +1,15 @@
 // What the evening program prints (document 01, "Marked and run"), as a function from the bytes of its input to the bytes of its output. Where a function has a `requires`, each caller proves it.
+#![tactic(auto)]
+
 ghost use Rattle.std.specs.Prelude.{◌≡◌, ◌*◌, ◌≤◌, length};
 ghost use Rattle.basics.specs.Loan.{given, final};
 ghost use Rattle.config.specs.Configuration.{states};
 ghost use Rattle.calibrator.specs.Record.{remains};
-ghost use Rattle.evening.specs.Evening.{endEvening};
+ghost use Rattle.evening.specs.Evening.{end_evening};
 ghost use Rattle.program_text.specs.Reading.{asked};
-ghost use Rattle.program_lines.specs.Lines.{counterLines, PutIn};
-ghost use Rattle.program_report.specs.Printed.{outcomeLines, requestConfig, eveningOf, printed, eveningText, mostBytes, textFor};
-ghost use Rattle.program_report.specs.Inner.{newRecord, Zeros};
+ghost use Rattle.program_lines.specs.Lines.{counter_lines, PutIn};
+ghost use Rattle.program_report.specs.Printed.{outcome_lines, request_config, evening_of, printed, evening_text, most_bytes, text_for};
+ghost use Rattle.program_report.specs.Inner.{new_record, Zeros};
 
 use calibrator::{Counters, Previous, Record};
 use config::MicroPriceConfig;
@@ -19,8 +21,8 @@ pub const MOST_BYTES: usize = 4350;
 
 // The lines of an evening's answer, its counters and its model table.
 fn put_outcome(out: &mut [u8], answer: Evening, k: Counters, model: &[u64], n: usize) -> usize
-    requires { (n ≤ 27) × (mostBytes ≤ length out.old) }
-    ensures { PutIn mostBytes (given out) 0 (outcomeLines n answer (counterLines k.pairs k.skipped_spread_pairs k.skipped_gap_pairs k.largest_move_half_ticks)
+    requires { (n ≤ 27) × (most_bytes ≤ length out.old) }
+    ensures { PutIn most_bytes (given out) 0 (outcome_lines n answer (counter_lines k.pairs k.skipped_spread_pairs k.skipped_gap_pairs k.largest_move_half_ticks)
         (given model)) result (final out) }
 {
     match answer {
@@ -40,7 +42,7 @@ fn put_outcome(out: &mut [u8], answer: Evening, k: Counters, model: &[u64], n: u
 
 // The configuration of line 1.
 fn request_config(r: Request) -> MicroPriceConfig
-    ensures { result ≡ requestConfig r }
+    ensures { result ≡ request_config r }
 {
     let words = [r.tick, r.buckets, r.spread_states, r.least, r.gap];
     config::inner::config_of(&words)
@@ -48,7 +50,7 @@ fn request_config(r: Request) -> MicroPriceConfig
 
 // The record of a new calibrator.
 fn new_record() -> Record
-    ensures { result ≡ newRecord }
+    ensures { result ≡ new_record }
 {
     Record {
         previous: Previous::Nothing,
@@ -66,8 +68,8 @@ fn run_evening(
     scratch: &mut [f64],
     model: &mut [u64],
 ) -> EveningDone
-    requires { Zeros (states (requestConfig r)) stay.old moved.old move_half_ticks.old scratch.old model.old }
-    ensures { endEvening result.answer (remains result.next stay moved move_half_ticks) (final model) (final scratch) ≡ eveningOf r (given quotes) }
+    requires { Zeros (states (request_config r)) stay.old moved.old move_half_ticks.old scratch.old model.old }
+    ensures { end_evening result.answer (remains result.next stay moved move_half_ticks) (final model) (final scratch) ≡ evening_of r (given quotes) }
 {
     let config = request_config(r);
     let rec = new_record();
@@ -97,8 +99,8 @@ fn put_evening(
     scratch: &mut [f64],
     model: &mut [u64],
 ) -> usize
-    requires { (n ≡ states (requestConfig r)) × (n ≤ 27) × (mostBytes ≤ length out.old) × Zeros n stay.old moved.old move_half_ticks.old scratch.old model.old }
-    ensures { PutIn mostBytes (given out) 0 (printed (asked r (given quotes))) result (final out) }
+    requires { (n ≡ states (request_config r)) × (n ≤ 27) × (most_bytes ≤ length out.old) × Zeros n stay.old moved.old move_half_ticks.old scratch.old model.old }
+    ensures { PutIn most_bytes (given out) 0 (printed (asked r (given quotes))) result (final out) }
 {
     let done = run_evening(r, quotes, stay, moved, move_half_ticks, scratch, model);
     let answer = done.answer;
@@ -110,7 +112,7 @@ fn put_evening(
 // Document 01's N.
 fn states_of(r: Request) -> usize
     requires { r.buckets * r.spread_states ≤ 27 }
-    ensures { result ≡ states (requestConfig r) }
+    ensures { result ≡ states (request_config r) }
 {
     (r.buckets * r.spread_states) as usize
 }
@@ -124,8 +126,8 @@ fn product(a: usize, b: usize) -> usize
 
 // The lines of the evening of a request.
 fn put_request(out: &mut [u8], r: Request, quotes: &[u64]) -> usize
-    requires { (r.buckets * r.spread_states ≤ 27) × (mostBytes ≤ length out.old) }
-    ensures { PutIn mostBytes (given out) 0 (printed (asked r (given quotes))) result (final out) }
+    requires { (r.buckets * r.spread_states ≤ 27) × (most_bytes ≤ length out.old) }
+    ensures { PutIn most_bytes (given out) 0 (printed (asked r (given quotes))) result (final out) }
 {
     let mut stay = [0u64; 729];
     let mut moved = [0u64; 729];
@@ -150,8 +152,8 @@ fn put_request(out: &mut [u8], r: Request, quotes: &[u64]) -> usize
 
 // The lines of a text, with room for its quotes.
 fn put_text(input: &[u8], out: &mut [u8], recording: &mut [u64]) -> usize
-    requires { (mostBytes ≤ length out.old) × (5000 ≤ length recording.old) }
-    ensures { PutIn mostBytes (given out) 0 (eveningText (given input)) result (final out) }
+    requires { (most_bytes ≤ length out.old) × (5000 ≤ length recording.old) }
+    ensures { PutIn most_bytes (given out) 0 (evening_text (given input)) result (final out) }
 {
     let found = program_text::read_text(input, recording);
     match found {
@@ -165,7 +167,7 @@ fn put_text(input: &[u8], out: &mut [u8], recording: &mut [u64]) -> usize
 
 // What the evening program prints for an input, from the front of `out` on, and how many bytes that is. An `out` of fewer than MOST_BYTES bytes stays as it is, and the answer is 0.
 pub fn evening_text(input: &[u8], out: &mut [u8]) -> usize
-    ensures { PutIn (length (given out)) (given out) 0 (textFor (length (given out)) (given input)) result (final out) }
+    ensures { PutIn (length (given out)) (given out) 0 (text_for (length (given out)) (given input)) result (final out) }
 {
     if out.len() < MOST_BYTES {
         return 0;

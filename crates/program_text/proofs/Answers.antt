@@ -10,8 +10,8 @@ use lib.Seq.{sets, get_or-set_same}
 use borrow.Author.Tests.{leb-true, not-true, not-false}
 use Rattle.basics.proofs.Tests.{zero-not-one, both}
 use Rattle.basics.proofs.Stores.{sets_below}
-use Rattle.program_text.specs.Reading.{wholeLines, fewStates, requestOf, Reading, asked, badInput, readNumbers, readText, readAnswer, recordingBy, ReadBy}
-use Rattle.program_text.specs.Inner.{begin, numbersEnded, fine, NumbersBy}
+use Rattle.program_text.specs.Reading.{whole_lines, few_states, request_of, Reading, asked, bad_input, read_numbers, read_text, read_answer, recording_by, ReadBy}
+use Rattle.program_text.specs.Inner.{begin, numbers_ended, fine, NumbersBy}
 use Rattle.program_text.specs.declared.Read.{Read}
 use Rattle.program_text.specs.declared.Read.TheVariants as Read
 use Rattle.program_text.specs.declared.Numbers.{Numbers}
@@ -34,11 +34,11 @@ front vs l k h r =
     ap (λ (j : ℕ). get_or (sets l 0 vs) j 0) e ∙ sets-within vs l 0 k h (omega arith)
 
 -- whole lines are at least line 1
-pub whole-least : (m : ℕ) → wholeLines m ≡ true → 7 ≤ m
+pub whole-least : (m : ℕ) → whole_lines m ≡ true → 7 ≤ m
 whole-least m e = leb-true 7 m (both (leb 7 m) (eqb ((m - 7) % 5) 0 && leb ((m - 7) / 5) 1000) e).0
 
 -- so where both tests passed, line 1 is there
-pub passed-least : {n : ℕ} {whole : Bool} (few : Bool) → whole ≡ wholeLines n → not (whole && few) ≡ false → 7 ≤ n
+pub passed-least : {n : ℕ} {whole : Bool} (few : Bool) → whole ≡ whole_lines n → not (whole && few) ≡ false → 7 ≤ n
 passed-least {n} {whole} few u e = whole-least n (sym u ∙ (both whole few (not-false (whole && few) e)).0)
 
 module _ (f : Bool) (m : ℕ) where
@@ -57,69 +57,69 @@ module _ (f : Bool) (m : ℕ) where
       go false h d = h
 
 -- a text is answered by what it reads
-read_by : (g h : Reading) (before : List ℕ) (r : Read) (left : List ℕ) → g ≡ h → r ≡ readAnswer h → left ≡ recordingBy h before → ReadBy g before r left
+read_by : (g h : Reading) (before : List ℕ) (r : Read) (left : List ℕ) → g ≡ h → r ≡ read_answer h → left ≡ recording_by h before → ReadBy g before r left
 read_by g h before r left e f k =
-    record { answer = f ∙ sym (ap readAnswer e); recording = k ∙ sym (ap (λ (x : Reading). recordingBy x before) e) }
+    record { answer = f ∙ sym (ap read_answer e); recording = k ∙ sym (ap (λ (x : Reading). recording_by x before) e) }
 
 -- `line1` is what the first call of `read_numbers` says, with which the text is read from number 0 on
 module _ (b before : List ℕ) {l head : List ℕ} {r : Numbers} (line1 : NumbersBy b 0 l r head) where
   -- a byte may not stand where it does
-  pub read-broken : r ≡ Broken → ReadBy (readText b) before Read.Bad before
-  unfolding readText
+  pub read-broken : r ≡ Broken → ReadBy (read_text b) before Read.Bad before
+  unfolding read_text
   read-broken e =
-      read_by (readText b) badInput before Read.Bad before
-      (ap (λ (x : Bool). cond x (readNumbers (numbersEnded begin b)) badInput)
-      (broken-known (fine begin b) (0 + length (numbersEnded begin b)) (sym e ∙ line1.answer)))
+      read_by (read_text b) bad_input before Read.Bad before
+      (ap (λ (x : Bool). cond x (read_numbers (numbers_ended begin b)) bad_input)
+      (broken-known (fine begin b) (0 + length (numbers_ended begin b)) (sym e ∙ line1.answer)))
       refl
       refl
 
   -- n numbers, of which as many as there are stand in front of seven words
   module _ {n : ℕ} (found : r ≡ All n) (seven : length l ≡ 7) where
-    known : (fine begin b ≡ true) × (n ≡ 0 + length (numbersEnded begin b))
-    known = all_known (fine begin b) (0 + length (numbersEnded begin b)) n (sym found ∙ line1.answer)
+    known : (fine begin b ≡ true) × (n ≡ 0 + length (numbers_ended begin b))
+    known = all_known (fine begin b) (0 + length (numbers_ended begin b)) n (sym found ∙ line1.answer)
 
-    long : n ≡ length (numbersEnded begin b)
+    long : n ≡ length (numbers_ended begin b)
     long = let e = known.1 in omega arith
 
-    at : (k : ℕ) → k < 7 → 7 ≤ n → get_or head k 0 ≡ get_or (numbersEnded begin b) k 0
+    at : (k : ℕ) → k < 7 → 7 ≤ n → get_or head k 0 ≡ get_or (numbers_ended begin b) k 0
     at k h g =
         ap (λ (x : List ℕ). get_or x k 0) line1.stored
-        ∙ front (numbersEnded begin b) l k (omega (arith, long)) (omega arith)
+        ∙ front (numbers_ended begin b) l k (omega (arith, long)) (omega arith)
 
-    reads : (x : Bool) → (wholeLines (length (numbersEnded begin b)) && fewStates (get_or (numbersEnded begin b) 1 0) (get_or (numbersEnded begin b) 2 0)) ≡ x
-        → readText b ≡ cond x (asked (requestOf (numbersEnded begin b)) (drop 7 (numbersEnded begin b))) badInput
-    unfolding readText
+    reads : (x : Bool) → (whole_lines (length (numbers_ended begin b)) && few_states (get_or (numbers_ended begin b) 1 0) (get_or (numbers_ended begin b) 2 0)) ≡ x
+        → read_text b ≡ cond x (asked (request_of (numbers_ended begin b)) (drop 7 (numbers_ended begin b))) bad_input
+    unfolding read_text
     reads x e =
-        ap (λ (y : Bool). cond y (readNumbers (numbersEnded begin b)) badInput) known.0
-        ∙ ap (λ (y : Bool). cond y (asked (requestOf (numbersEnded begin b)) (drop 7 (numbersEnded begin b))) badInput) e
+        ap (λ (y : Bool). cond y (read_numbers (numbers_ended begin b)) bad_input) known.0
+        ∙ ap (λ (y : Bool). cond y (asked (request_of (numbers_ended begin b)) (drop 7 (numbers_ended begin b))) bad_input) e
 
     -- the test of the code is the test of the definition
-    tested : (wholeLines n && fewStates (get_or head 1 0) (get_or head 2 0)) ≡
-        (wholeLines (length (numbersEnded begin b)) && fewStates (get_or (numbersEnded begin b) 1 0) (get_or (numbersEnded begin b) 2 0))
-    tested = go (wholeLines n) refl
+    tested : (whole_lines n && few_states (get_or head 1 0) (get_or head 2 0)) ≡
+        (whole_lines (length (numbers_ended begin b)) && few_states (get_or (numbers_ended begin b) 1 0) (get_or (numbers_ended begin b) 2 0))
+    tested = go (whole_lines n) refl
       where
-        go : (x : Bool) → wholeLines n ≡ x
-            → (wholeLines n && fewStates (get_or head 1 0) (get_or head 2 0)) ≡
-            (wholeLines (length (numbersEnded begin b)) && fewStates (get_or (numbersEnded begin b) 1 0) (get_or (numbersEnded begin b) 2 0))
+        go : (x : Bool) → whole_lines n ≡ x
+            → (whole_lines n && few_states (get_or head 1 0) (get_or head 2 0)) ≡
+            (whole_lines (length (numbers_ended begin b)) && few_states (get_or (numbers_ended begin b) 1 0) (get_or (numbers_ended begin b) 2 0))
         go true e =
             let p = at 1 (omega arith) (whole-least n e) in
             let q = at 2 (omega arith) (whole-least n e) in
-            λ i. wholeLines (long i) && fewStates (p i) (q i)
+            λ i. whole_lines (long i) && few_states (p i) (q i)
         go false e =
-            ap (λ (x : Bool). x && fewStates (get_or head 1 0) (get_or head 2 0)) e
-            ∙ sym (ap (λ (x : Bool). x && fewStates (get_or (numbersEnded begin b) 1 0) (get_or (numbersEnded begin b) 2 0)) (ap wholeLines (sym long) ∙ e))
+            ap (λ (x : Bool). x && few_states (get_or head 1 0) (get_or head 2 0)) e
+            ∙ sym (ap (λ (x : Bool). x && few_states (get_or (numbers_ended begin b) 1 0) (get_or (numbers_ended begin b) 2 0)) (ap whole_lines (sym long) ∙ e))
 
     -- with the answers of `whole_lines` and `few_states`
-    module _ {whole few : Bool} (u : whole ≡ wholeLines n) (v : few ≡ fewStates (get_or head 1 0) (get_or head 2 0)) where
-      test-is : (whole && few) ≡ (wholeLines (length (numbersEnded begin b)) && fewStates (get_or (numbersEnded begin b) 1 0) (get_or (numbersEnded begin b) 2 0))
+    module _ {whole few : Bool} (u : whole ≡ whole_lines n) (v : few ≡ few_states (get_or head 1 0) (get_or head 2 0)) where
+      test-is : (whole && few) ≡ (whole_lines (length (numbers_ended begin b)) && few_states (get_or (numbers_ended begin b) 1 0) (get_or (numbers_ended begin b) 2 0))
       test-is = (λ i. u i && v i) ∙ tested
 
-      pub read-refused : not (whole && few) ≡ true → ReadBy (readText b) before Read.Bad before
-      read-refused e = read_by (readText b) badInput before Read.Bad before (reads false (sym test-is ∙ not-true (whole && few) e)) refl refl
+      pub read-refused : not (whole && few) ≡ true → ReadBy (read_text b) before Read.Bad before
+      read-refused e = read_by (read_text b) bad_input before Read.Bad before (reads false (sym test-is ∙ not-true (whole && few) e)) refl refl
 
       -- the second call of `read_numbers` stores the words of the quotes
       pub read_asked : {left : List ℕ} {s : Numbers} → not (whole && few) ≡ false → NumbersBy b 7 before s left
-          → ReadBy (readText b) before
+          → ReadBy (read_text b) before
           (Read.Request
           (record {
             tick = get_or head 0 0;
@@ -141,7 +141,7 @@ module _ (b before : List ℕ) {l head : List ℕ} {r : Numbers} (line1 : Number
           let p4 = at 4 (omega arith) h in
           let p5 = at 5 (omega arith) h in
           let p6 = at 6 (omega arith) h in
-          read_by (readText b) (asked (requestOf (numbersEnded begin b)) (drop 7 (numbersEnded begin b))) before _ left
+          read_by (read_text b) (asked (request_of (numbers_ended begin b)) (drop 7 (numbers_ended begin b))) before _ left
           (reads true (sym test-is ∙ not-false (whole && few) e))
           (λ i. Read.Request
           (record { tick = p0 i; buckets = p1 i; spread_states = p2 i; least = p3 i; gap = p4 i; start = p5 i; end = p6 i; quotes = (long i - 7) / 5 }))

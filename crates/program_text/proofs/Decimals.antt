@@ -10,32 +10,32 @@ use lib.Dec.{ltb}
 use lib.ListN.{length, length-append}
 use borrow.Author.Tests.{lt-ltb, le-ltb}
 use Rattle.basics.proofs.Tests.{le-or-lt}
-use Rattle.program_text.specs.Text.{digit, decimalIn, decimal}
+use Rattle.program_text.specs.Text.{digit, decimal_in, decimal}
 
-in_one : (j n : ℕ) → n < 10 → decimalIn j n ≡ digit n ∷ []
+in_one : (j n : ℕ) → n < 10 → decimal_in j n ≡ digit n ∷ []
 in_one zero n s = ap (λ (d : ℕ). digit d ∷ []) (let e : n % 10 ≡ n = omega arith in e)
-in_one (suc j) n s = ap (λ (t : Bool). cond t (digit n ∷ []) (decimalIn j (n / 10) ++ digit (n % 10) ∷ [])) (lt-ltb n 10 s)
+in_one (suc j) n s = ap (λ (t : Bool). cond t (digit n ∷ []) (decimal_in j (n / 10) ++ digit (n % 10) ∷ [])) (lt-ltb n 10 s)
 
 -- more steps change nothing
-enough : (k m n : ℕ) → n ≤ k → n ≤ m → decimalIn k n ≡ decimalIn m n
+enough : (k m n : ℕ) → n ≤ k → n ≤ m → decimal_in k n ≡ decimal_in m n
 enough zero m n h g = in_one zero n (omega arith) ∙ sym (in_one m n (omega arith))
 enough (suc k) zero n h g = in_one (suc k) n (omega arith) ∙ sym (in_one zero n (omega arith))
 enough (suc k) (suc m) n h g = by (le-or-lt 10 n) (λ s. enough k m (n / 10) (omega arith) (omega arith))
   where
-    by : (10 ≤ n) ⊎ (n < 10) → (10 ≤ n → decimalIn k (n / 10) ≡ decimalIn m (n / 10)) → decimalIn (suc k) n ≡ decimalIn (suc m) n
+    by : (10 ≤ n) ⊎ (n < 10) → (10 ≤ n → decimal_in k (n / 10) ≡ decimal_in m (n / 10)) → decimal_in (suc k) n ≡ decimal_in (suc m) n
     by (inr s) f = in_one (suc k) n s ∙ sym (in_one (suc m) n s)
     by (inl s) f = ap (λ (r : List ℕ). cond (ltb n 10) (digit n ∷ []) (r ++ digit (n % 10) ∷ [])) (f s)
 
 pub decimal-one : (n : ℕ) → n < 10 → decimal n ≡ digit n ∷ []
 unfolding decimal
 decimal-one zero h = refl
-decimal-one (suc k) h = ap (λ (t : Bool). cond t (digit (suc k) ∷ []) (decimalIn k (suc k / 10) ++ digit (suc k % 10) ∷ [])) (lt-ltb (suc k) 10 h)
+decimal-one (suc k) h = ap (λ (t : Bool). cond t (digit (suc k) ∷ []) (decimal_in k (suc k / 10) ++ digit (suc k % 10) ∷ [])) (lt-ltb (suc k) 10 h)
 
 pub decimal-more : (n : ℕ) → 10 ≤ n → decimal n ≡ decimal (n / 10) ++ digit (n % 10) ∷ []
 unfolding decimal
 decimal-more zero h = absurd (omega arith)
 decimal-more (suc k) h =
-    ap (λ (t : Bool). cond t (digit (suc k) ∷ []) (decimalIn k (suc k / 10) ++ digit (suc k % 10) ∷ [])) (le-ltb (suc k) 10 h)
+    ap (λ (t : Bool). cond t (digit (suc k) ∷ []) (decimal_in k (suc k / 10) ++ digit (suc k % 10) ∷ [])) (le-ltb (suc k) 10 h)
     ∙ ap (λ (r : List ℕ). r ++ digit (suc k % 10) ∷ []) (enough k (suc k / 10) (suc k / 10) (omega arith) (omega arith))
 
 -- a digit more at the end

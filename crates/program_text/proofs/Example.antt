@@ -4,7 +4,7 @@ use mathlib.Core.Path.{◌≡◌, refl}
 use mathlib.Core.List.{List, [], ◌∷◌, ◌++◌, map}
 use lib.ListN.{replicate}
 use Rattle.program_text.specs.Text.{decimal, text_of}
-use Rattle.program_text.specs.Reading.{asked, badInput, readText}
+use Rattle.program_text.specs.Reading.{asked, bad_input, read_text}
 use Rattle.program_text.specs.declared.Request.{Request}
 
 abbrev pub request : Request
@@ -24,8 +24,8 @@ pub example-text : text_of request quotes ≡ bytes
 unfolding decimal
 example-text = refl
 
-pub example-read : readText bytes ≡ asked request quotes
-unfolding readText
+pub example-read : read_text bytes ≡ asked request quotes
+unfolding read_text
 example-read = refl
 
 -- line 1 without its newline
@@ -51,14 +51,14 @@ bad-texts =
     (49 ∷ 32 ∷ 52 ∷ 50 ∷ 57 ∷ 52 ∷ 57 ∷ 54 ∷ 55 ∷ 50 ∷ 57 ∷ 54 ∷ 32 ∷ 52 ∷ 50 ∷ 57 ∷ 52 ∷ 57 ∷ 54 ∷ 55 ∷ 50 ∷ 57 ∷ 54 ∷ line-end) ∷
     []
 
-pub bad-read : map readText bad-texts ≡ replicate 10 badInput
-unfolding readText
+pub bad-read : map read_text bad-texts ≡ replicate 10 bad_input
+unfolding read_text
 bad-read = refl
 
 -- 18446744073709551615 0 18446744073709551615: 2^64 − 1, n × s = 0 and no quotes are fine
-pub large-read : readText
+pub large-read : read_text
     (49 ∷ 56 ∷ 52 ∷ 52 ∷ 54 ∷ 55 ∷ 52 ∷ 52 ∷ 48 ∷ 55 ∷ 51 ∷ 55 ∷ 48 ∷ 57 ∷ 53 ∷ 53 ∷ 49 ∷ 54 ∷ 49 ∷ 53 ∷ 32 ∷ 48 ∷ 32 ∷ 49 ∷ 56 ∷ 52 ∷ 52 ∷ 54 ∷ 55 ∷ 52 ∷ 52
     ∷ 48 ∷ 55 ∷ 51 ∷ 55 ∷ 48 ∷ 57 ∷ 53 ∷ 53 ∷ 49 ∷ 54 ∷ 49 ∷ 53 ∷ line-end) ≡ asked
     (record { tick = 18446744073709551615; buckets = 0; spread_states = 18446744073709551615; least = 1; gap = 1000; start = 0; end = 10; quotes = 0 }) []
-unfolding readText
+unfolding read_text
 large-read = refl

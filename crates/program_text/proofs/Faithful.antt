@@ -11,9 +11,9 @@ use lib.Seq.{sets, sets-eq, take_at}
 use borrow.Author.Tests.{lt-ltb, le-ltb, eq-eqb, ne_eqb, le-leb, eqb-true, leb-true, eqb-false, not-true}
 use Rattle.basics.proofs.Tests.{zero-not-one, both, le-or-lt, eqb_same}
 use Rattle.image_words.specs.Words.{AllWords}
-use Rattle.program_text.specs.Text.{digit, decimal, space, newline, line_of, quoteLines, firstLine, text_of, Admissible}
-use Rattle.program_text.specs.Reading.{wholeLines, fewStates, requestOf, asked, badInput, readNumbers, readText}
-use Rattle.program_text.specs.Inner.{scan, separator, isDigit, takes, digitStep, step_of, begin, numbersEnded, fine}
+use Rattle.program_text.specs.Text.{digit, decimal, space, newline, line_of, quote_lines, first_line, text_of, Admissible}
+use Rattle.program_text.specs.Reading.{whole_lines, few_states, request_of, asked, bad_input, read_numbers, read_text}
+use Rattle.program_text.specs.Inner.{scan, separator, is_digit, takes, digit_step, step_of, begin, numbers_ended, fine}
 use Rattle.program_text.specs.declared.Request.{Request}
 use Rattle.program_text.specs.declared.Scan.{Scan}
 use Rattle.program_text.specs.declared.Step.{Step}
@@ -35,7 +35,7 @@ digit-goes : (k v d : ℕ) (b : Bool) → d ≤ 9 → takes b v d ≡ true → s
 digit-goes k v d b h e =
     let z : digit d - 48 ≡ d = omega arith in
     step-digit (scan k v b) (digit d) (omega arith) (omega arith)
-    ∙ ap (digitStep (scan k v b)) z
+    ∙ ap (digit_step (scan k v b)) z
     ∙ digit-on (scan k v b) d e
 
 after-below : (k : ℕ) → separator k < 48
@@ -54,7 +54,7 @@ end_goes k v =
 -- the walk over the digits of a number
 pub record Same (s : Scan) (b : List ℕ) (t : Scan) (c : List ℕ) : Type 0 where
   pub same-fine : fine s b ≡ fine t c
-  pub same_ended : numbersEnded s b ≡ numbersEnded t c
+  pub same_ended : numbers_ended s b ≡ numbers_ended t c
 
 same-digit : (k v d : ℕ) (b : Bool) (r : List ℕ) (w : ℕ) → d ≤ 9 → takes b v d ≡ true → v * 10 + d ≡ w → Same (scan k v b) (digit d ∷ r) (scan k w true) r
 same-digit k v d b r w h e f =
@@ -83,10 +83,10 @@ walk-number (suc fuel) n k r h g =
         ap (λ (l : List ℕ). l ++ r) (decimal-more n s) ∙ append_assoc (decimal (n / 10)) (digit (n % 10) ∷ []) r in
         record {
           same-fine = ap (fine (scan k 0 false)) split ∙ first.same-fine ∙ last.same-fine;
-          same_ended = ap (numbersEnded (scan k 0 false)) split ∙ first.same_ended ∙ last.same_ended;
+          same_ended = ap (numbers_ended (scan k 0 false)) split ∙ first.same_ended ∙ last.same_ended;
         }
 
-pub walk-flat : (xs : List ℕ) (k : ℕ) → AllWords xs → (fine (scan k 0 false) (flat k xs) ≡ true) × (numbersEnded (scan k 0 false) (flat k xs) ≡ xs)
+pub walk-flat : (xs : List ℕ) (k : ℕ) → AllWords xs → (fine (scan k 0 false) (flat k xs) ≡ true) × (numbers_ended (scan k 0 false) (flat k xs) ≡ xs)
 walk-flat [] k a = (refl, refl)
 walk-flat (x ∷ xs) k a =
     let w = walk-number x x k (separator k ∷ flat (k + 1) xs) (omega arith) a.0 in
@@ -121,7 +121,7 @@ pending-more false v d r f e h =
     let z : v * 10 + d ≡ d = omega (arith, f refl) in
     ap (λ (n : ℕ). decimal n ++ r) z ∙ ap (λ (l : List ℕ). l ++ r) (decimal-one d (omega arith))
 
-digit-known : (b : ℕ) → isDigit b ≡ true → (48 ≤ b) × (b ≤ 57)
+digit-known : (b : ℕ) → is_digit b ≡ true → (48 ≤ b) × (b ≤ 57)
 digit-known b e = let t = both (leb 48 b) (leb b 57) e in (leb-true 48 b t.0, leb-true b 57 t.1)
 
 sound-digit : (s : Scan) (b : ℕ) → takes s.begun s.value (b - 48) ≡ true → Sound (scan s.count (s.value * 10 + (b - 48)) true)
@@ -132,8 +132,8 @@ sound-end k = record { fresh = λ e. refl; word = omega arith }
 
 -- what is written of the pending digits and the bytes that are left
 written_step : (s t : Scan) (b : ℕ) (bs : List ℕ) → Sound s → Went s b t
-    → numbersEnded s (b ∷ bs) ≡ cond t.begun (numbersEnded t bs) (s.value ∷ numbersEnded t bs)
-    → pending t ++ bs ≡ flat t.count (numbersEnded t bs) → pending s ++ b ∷ bs ≡ flat s.count (numbersEnded s (b ∷ bs))
+    → numbers_ended s (b ∷ bs) ≡ cond t.begun (numbers_ended t bs) (s.value ∷ numbers_ended t bs)
+    → pending t ++ bs ≡ flat t.count (numbers_ended t bs) → pending s ++ b ∷ bs ≡ flat s.count (numbers_ended s (b ∷ bs))
 written_step s t b bs o (digit-read p q) e h =
     let d = digit-known b p in
     let z : digit (b - 48) ≡ b = omega arith in
@@ -157,18 +157,18 @@ goes s b = go (step_of s b) refl
     go Off e = inl e
     go (On t) e = inr (t, e)
 
-pub written : (b : List ℕ) (s : Scan) → Sound s → fine s b ≡ true → pending s ++ b ≡ flat s.count (numbersEnded s b)
+pub written : (b : List ℕ) (s : Scan) → Sound s → fine s b ≡ true → pending s ++ b ≡ flat s.count (numbers_ended s b)
 written [] s o e = ap (λ (x : Bool). cond x (decimal s.value) [] ++ []) (not-true s.begun e)
 written (b ∷ bs) s o e = by (goes s b) (λ t g f. written bs t g f)
   where
     by : (step_of s b ≡ Off) ⊎ ((t : Scan) × (step_of s b ≡ On t))
-        → ((t : Scan) → Sound t → fine t bs ≡ true → pending t ++ bs ≡ flat t.count (numbersEnded t bs))
-        → pending s ++ b ∷ bs ≡ flat s.count (numbersEnded s (b ∷ bs))
+        → ((t : Scan) → Sound t → fine t bs ≡ true → pending t ++ bs ≡ flat t.count (numbers_ended t bs))
+        → pending s ++ b ∷ bs ≡ flat s.count (numbers_ended s (b ∷ bs))
     by (inl g) f = let n = sym (fine-off s b bs g) ∙ e in absurd (zero-not-one cc)
     by (inr (t, g)) f =
         written_step s t b bs o (went s b t g) (ended-on s b bs t g) (f t (sound-step s t b (went s b t g)) (sym (fine-on s b bs t g) ∙ e))
 
-pub ended-words : (b : List ℕ) (s : Scan) → Sound s → AllWords (numbersEnded s b)
+pub ended-words : (b : List ℕ) (s : Scan) → Sound s → AllWords (numbers_ended s b)
 ended-words [] s o = tt
 ended-words (b ∷ bs) s o = by (goes s b) (λ t g. ended-words bs t g)
   where
@@ -176,10 +176,10 @@ ended-words (b ∷ bs) s o = by (goes s b) (λ t g. ended-words bs t g)
     either_way true l a = a
     either_way false l a = (o.word, a)
 
-    by : (step_of s b ≡ Off) ⊎ ((t : Scan) × (step_of s b ≡ On t)) → ((t : Scan) → Sound t → AllWords (numbersEnded t bs)) → AllWords (numbersEnded s (b ∷ bs))
+    by : (step_of s b ≡ Off) ⊎ ((t : Scan) × (step_of s b ≡ On t)) → ((t : Scan) → Sound t → AllWords (numbers_ended t bs)) → AllWords (numbers_ended s (b ∷ bs))
     by (inl g) f = subst AllWords (sym (ended-off s b bs g)) tt
     by (inr (t, g)) f =
-        subst AllWords (sym (ended-on s b bs t g)) (either_way t.begun (numbersEnded t bs) (f t (sound-step s t b (went s b t g))))
+        subst AllWords (sym (ended-on s b bs t g)) (either_way t.begun (numbers_ended t bs) (f t (sound-step s t b (went s b t g))))
 
 -- ---- lines
 
@@ -208,7 +208,7 @@ after_first k h = ap (λ (t : Bool). cond t space (cond (eqb ((k - 6) % 5) 0) ne
 after-later : (k : ℕ) (t : Bool) → 6 ≤ k → eqb ((k - 6) % 5) 0 ≡ t → separator k ≡ cond t newline space
 after-later k t h e = (λ i. cond (le-ltb k 6 h i) space (cond (e i) newline space))
 
-quote-lines : (q j : ℕ) (ws : List ℕ) → length ws ≡ 5 * q → flat (7 + 5 * j) ws ≡ quoteLines q ws
+quote-lines : (q j : ℕ) (ws : List ℕ) → length ws ≡ 5 * q → flat (7 + 5 * j) ws ≡ quote_lines q ws
 quote-lines zero j [] h = refl
 quote-lines zero j (a ∷ ws) h = absurd (omega arith)
 quote-lines (suc q) j [] h = absurd (omega arith)
@@ -224,14 +224,14 @@ quote-lines (suc q) j (a ∷ b ∷ c ∷ d ∷ e ∷ ws) h =
     ∙ ap (λ (r : List ℕ). line_of (a ∷ b ∷ c ∷ d ∷ e ∷ []) ++ r) (ap (λ (m : ℕ). flat m ws) n ∙ quote-lines q (suc j) ws (omega arith))
 
 -- the text, number by number
-pub text-flat : (r : Request) (ws : List ℕ) → length ws ≡ 5 * r.quotes → flat 0 (firstLine r ++ ws) ≡ text_of r ws
+pub text-flat : (r : Request) (ws : List ℕ) → length ws ≡ 5 * r.quotes → flat 0 (first_line r ++ ws) ≡ text_of r ws
 text-flat r ws h =
     flat_line (r.buckets ∷ r.spread_states ∷ r.least ∷ r.gap ∷ r.start ∷ r.end ∷ []) r.tick 0 ws (λ i g. after_first (0 + i) (omega arith)) refl
-    ∙ ap (λ (l : List ℕ). line_of (firstLine r) ++ l) (quote-lines r.quotes 0 ws h)
+    ∙ ap (λ (l : List ℕ). line_of (first_line r) ++ l) (quote-lines r.quotes 0 ws h)
 
 -- ---- reading and writing
 
-line-split : (l : List ℕ) → 7 ≤ length l → firstLine (requestOf l) ++ drop 7 l ≡ l
+line-split : (l : List ℕ) → 7 ≤ length l → first_line (request_of l) ++ drop 7 l ≡ l
 line-split [] h = absurd (omega arith)
 line-split (a ∷ []) h = absurd (omega arith)
 line-split (a ∷ b ∷ []) h = absurd (omega arith)
@@ -242,21 +242,21 @@ line-split (a ∷ b ∷ c ∷ d ∷ e ∷ f ∷ []) h = absurd (omega arith)
 line-split (a ∷ b ∷ c ∷ d ∷ e ∷ f ∷ g ∷ l) h = refl
 
 -- the text of an admissible request is read as that request
-pub text-read : (r : Request) (ws : List ℕ) → Admissible r ws → readText (text_of r ws) ≡ asked r ws
-unfolding readText
+pub text-read : (r : Request) (ws : List ℕ) → Admissible r ws → read_text (text_of r ws) ≡ asked r ws
+unfolding read_text
 text-read r ws a =
-    let all = firstLine r ++ ws in
+    let all = first_line r ++ ws in
     let w = walk-flat all 0 a.numbers in
     let five = a.five in
     let few = a.few in
     let long : length all ≡ 7 + length ws = omega arith in
     let q : (length all - 7) / 5 ≡ r.quotes = omega arith in
-    let t : wholeLines (length all) ≡ true =
+    let t : whole_lines (length all) ≡ true =
     (λ i. le-leb 7 (length all) (omega arith) i &&
     (eq-eqb ((length all - 7) % 5) 0 (omega arith) i && le-leb ((length all - 7) / 5) 1000 (omega arith) i)) in
-    ap (λ (b : List ℕ). cond (fine begin b) (readNumbers (numbersEnded begin b)) badInput) (sym (text-flat r ws five))
-    ∙ (λ i. cond (w.0 i) (readNumbers (w.1 i)) badInput)
-    ∙ (λ i. cond (t i && le-leb (r.buckets * r.spread_states) 27 a.states i) (asked (requestOf all) ws) badInput)
+    ap (λ (b : List ℕ). cond (fine begin b) (read_numbers (numbers_ended begin b)) bad_input) (sym (text-flat r ws five))
+    ∙ (λ i. cond (w.0 i) (read_numbers (w.1 i)) bad_input)
+    ∙ (λ i. cond (t i && le-leb (r.buckets * r.spread_states) 27 a.states i) (asked (request_of all) ws) bad_input)
     ∙ (λ i. asked
     (record {
       tick = r.tick;
@@ -270,25 +270,25 @@ text-read r ws a =
     }) ws)
 
 -- what is read as a request is the text of that request, which is admissible
-pub read-text : (b : List ℕ) (r : Request) (ws : List ℕ) → readText b ≡ asked r ws → (text_of r ws ≡ b) × Admissible r ws
-unfolding readText
+pub read-text : (b : List ℕ) (r : Request) (ws : List ℕ) → read_text b ≡ asked r ws → (text_of r ws ≡ b) × Admissible r ws
+unfolding read_text
 read-text b r ws e =
-    go (fine begin b) refl (wholeLines (length (numbersEnded begin b)) && fewStates (get_or (numbersEnded begin b) 1 0) (get_or (numbersEnded begin b) 2 0)) refl e
+    go (fine begin b) refl (whole_lines (length (numbers_ended begin b)) && few_states (get_or (numbers_ended begin b) 1 0) (get_or (numbers_ended begin b) 2 0)) refl e
   where
     known : fine begin b ≡ true
-        → (wholeLines (length (numbersEnded begin b)) && fewStates (get_or (numbersEnded begin b) 1 0) (get_or (numbersEnded begin b) 2 0)) ≡ true
-        → (text_of (requestOf (numbersEnded begin b)) (drop 7 (numbersEnded begin b)) ≡ b)
-        × Admissible (requestOf (numbersEnded begin b)) (drop 7 (numbersEnded begin b))
+        → (whole_lines (length (numbers_ended begin b)) && few_states (get_or (numbers_ended begin b) 1 0) (get_or (numbers_ended begin b) 2 0)) ≡ true
+        → (text_of (request_of (numbers_ended begin b)) (drop 7 (numbers_ended begin b)) ≡ b)
+        × Admissible (request_of (numbers_ended begin b)) (drop 7 (numbers_ended begin b))
     known f t =
-        let all = numbersEnded begin b in
-        let p = both (wholeLines (length all)) (fewStates (get_or all 1 0) (get_or all 2 0)) t in
+        let all = numbers_ended begin b in
+        let p = both (whole_lines (length all)) (few_states (get_or all 1 0) (get_or all 2 0)) t in
         let u = both (leb 7 (length all)) (eqb ((length all - 7) % 5) 0 && leb ((length all - 7) / 5) 1000) p.0 in
         let v = both (eqb ((length all - 7) % 5) 0) (leb ((length all - 7) / 5) 1000) u.1 in
         let least : 7 ≤ length all = leb-true 7 (length all) u.0 in
         let whole : (length all - 7) % 5 ≡ 0 = eqb-true ((length all - 7) % 5) 0 v.0 in
         let five : length (drop 7 all) ≡ 5 * ((length all - 7) / 5) = omega (arith, length-drop 7 all) in
         let split = line-split all least in (
-          sym (text-flat (requestOf all) (drop 7 all) five) ∙ ap (flat 0) split ∙ sym (written b begin (sound-end 0) f),
+          sym (text-flat (request_of all) (drop 7 all) five) ∙ ap (flat 0) split ∙ sym (written b begin (sound-end 0) f),
           record {
             numbers = subst AllWords (sym split) (ended-words b begin (sound-end 0));
             states = leb-true (get_or all 1 0 * get_or all 2 0) 27 p.1;
@@ -304,22 +304,22 @@ read-text b r ws e =
         subst (λ (z : Request). (text_of z ws ≡ b) × Admissible z ws) p (subst (λ (z : List ℕ). (text_of x z ≡ b) × Admissible x z) q h)
 
     go : (f : Bool) → fine begin b ≡ f → (t : Bool)
-        → (wholeLines (length (numbersEnded begin b)) && fewStates (get_or (numbersEnded begin b) 1 0) (get_or (numbersEnded begin b) 2 0)) ≡ t
-        → cond f (cond t (asked (requestOf (numbersEnded begin b)) (drop 7 (numbersEnded begin b))) badInput) badInput ≡ asked r ws
+        → (whole_lines (length (numbers_ended begin b)) && few_states (get_or (numbers_ended begin b) 1 0) (get_or (numbers_ended begin b) 2 0)) ≡ t
+        → cond f (cond t (asked (request_of (numbers_ended begin b)) (drop 7 (numbers_ended begin b))) bad_input) bad_input ≡ asked r ws
         → (text_of r ws ≡ b) × Admissible r ws
-    go true hf true ht g = same (requestOf (numbersEnded begin b)) (drop 7 (numbersEnded begin b)) g (known hf ht)
+    go true hf true ht g = same (request_of (numbers_ended begin b)) (drop 7 (numbers_ended begin b)) g (known hf ht)
     go true hf false ht g = absurd (zero-not-one cc)
     go false hf t ht g = absurd (zero-not-one cc)
 
 -- bad input is the text of nothing admissible
-pub read-bad : (b : List ℕ) → readText b ≡ badInput → (r : Request) (ws : List ℕ) → Admissible r ws → text_of r ws ≡ b → ⊥
+pub read-bad : (b : List ℕ) → read_text b ≡ bad_input → (r : Request) (ws : List ℕ) → Admissible r ws → text_of r ws ≡ b → ⊥
 read-bad b e r ws a h =
-    let n : asked r ws ≡ badInput = sym (text-read r ws a) ∙ ap readText h ∙ e in
+    let n : asked r ws ≡ bad_input = sym (text-read r ws a) ∙ ap read_text h ∙ e in
     zero-not-one cc
 
 -- a text has one reading
 pub text-once : (r : Request) (ws : List ℕ) (q : Request) (vs : List ℕ) → Admissible r ws → Admissible q vs → text_of r ws ≡ text_of q vs → (r ≡ q) × (ws ≡ vs)
-text-once r ws q vs a c h = same (sym (text-read r ws a) ∙ ap readText h ∙ text-read q vs c)
+text-once r ws q vs a c h = same (sym (text-read r ws a) ∙ ap read_text h ∙ text-read q vs c)
   where
     same : asked r ws ≡ asked q vs → (r ≡ q) × (ws ≡ vs)
     same e = (cc, cc)

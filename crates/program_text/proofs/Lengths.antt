@@ -6,19 +6,19 @@ use native.Mathlib.Nat.{mul-le-mul}
 use native.Mathlib.Omega.{arith}
 use lib.ListN.{length, length-append}
 use Rattle.image_words.specs.Words.{AllWords}
-use Rattle.program_text.specs.Text.{decimal, line_of, quoteLines, firstLine, text_of, Admissible}
-use Rattle.program_text.specs.Reading.{Reading, asked, badInput, readText}
+use Rattle.program_text.specs.Text.{decimal, line_of, quote_lines, first_line, text_of, Admissible}
+use Rattle.program_text.specs.Reading.{Reading, asked, bad_input, read_text}
 use Rattle.program_text.specs.declared.Request.{Request}
 use Rattle.program_text.proofs.Faithful.{read-text}
 use Rattle.program_text.proofs.Decimals.{decimal-one, decimal-length, decimal-word}
 
 -- the digits of numbers
-abbrev pub allDigits : List ℕ → ℕ
-allDigits [] = 0
-allDigits (x ∷ xs) = length (decimal x) + allDigits xs
+abbrev pub all_digits : List ℕ → ℕ
+all_digits [] = 0
+all_digits (x ∷ xs) = length (decimal x) + all_digits xs
 
 -- a line has a byte after each number
-pub line-length : (xs : List ℕ) (x : ℕ) → length (line_of (x ∷ xs)) ≡ allDigits (x ∷ xs) + length (x ∷ xs)
+pub line-length : (xs : List ℕ) (x : ℕ) → length (line_of (x ∷ xs)) ≡ all_digits (x ∷ xs) + length (x ∷ xs)
 line-length [] x = length-append (decimal x) (10 ∷ []) ∙ omega arith
 line-length (y ∷ ys) x = length-append (decimal x) (32 ∷ line_of (y ∷ ys)) ∙ omega (arith, line-length ys y)
 
@@ -32,7 +32,7 @@ product-digits (suc n) (suc s) h g e =
     omega (arith, decimal-length 1 (suc n) (omega arith), decimal-length 1 (suc s) (omega arith))
 
 -- a quote's line has at most 105 bytes
-pub quotes-longest : (q : ℕ) (ws : List ℕ) → AllWords ws → length ws ≡ 5 * q → length (quoteLines q ws) ≤ 105 * q
+pub quotes-longest : (q : ℕ) (ws : List ℕ) → AllWords ws → length ws ≡ 5 * q → length (quote_lines q ws) ≤ 105 * q
 quotes-longest zero ws a h = omega arith
 quotes-longest (suc q) [] w h = absurd (omega arith)
 quotes-longest (suc q) (a ∷ []) w h = absurd (omega arith)
@@ -42,7 +42,7 @@ quotes-longest (suc q) (a ∷ b ∷ c ∷ d ∷ []) w h = absurd (omega arith)
 quotes-longest (suc q) (a ∷ b ∷ c ∷ d ∷ e ∷ ws) w h =
     omega (
       arith,
-      length-append (line_of (a ∷ b ∷ c ∷ d ∷ e ∷ [])) (quoteLines q ws),
+      length-append (line_of (a ∷ b ∷ c ∷ d ∷ e ∷ [])) (quote_lines q ws),
       line-length (b ∷ c ∷ d ∷ e ∷ []) a,
       quotes-longest q ws w.1.1.1.1.1 (omega arith),
       decimal-word a w.0,
@@ -59,7 +59,7 @@ text-longest r ws a =
     let few = a.few in
     omega (
       arith,
-      length-append (line_of (firstLine r)) (quoteLines r.quotes ws),
+      length-append (line_of (first_line r)) (quote_lines r.quotes ws),
       line-length (r.buckets ∷ r.spread_states ∷ r.least ∷ r.gap ∷ r.start ∷ r.end ∷ []) r.tick,
       quotes-longest r.quotes ws w.1.1.1.1.1.1.1 a.five,
       product-digits r.buckets r.spread_states w.1.0 w.1.1.0 a.states,
@@ -71,9 +71,9 @@ text-longest r ws a =
     )
 
 -- a longer one is bad input
-pub too_long : (b : List ℕ) → 105128 < length b → readText b ≡ badInput
-too_long b h = go (readText b) refl
+pub too_long : (b : List ℕ) → 105128 < length b → read_text b ≡ bad_input
+too_long b h = go (read_text b) refl
   where
-    go : (g : Reading) → readText b ≡ g → readText b ≡ badInput
+    go : (g : Reading) → read_text b ≡ g → read_text b ≡ bad_input
     go (asked r ws) e = let t = read-text b r ws e in absurd (omega (arith, text-longest r ws t.1, ap length t.0))
-    go badInput e = e
+    go bad_input e = e

@@ -9,7 +9,7 @@ use lib.Seq.{sets, length-sets, drop-cons}
 use borrow.Author.Tests.{lt-ltb, le-ltb}
 use Rattle.basics.proofs.Stores.{sets-append}
 use Rattle.program_text.specs.Text.{decimal}
-use Rattle.program_text.specs.Written.{hexDigit, hexDigits, hex16, Put}
+use Rattle.program_text.specs.Written.{hex_digit, hex_digits, hex16, Put}
 use Rattle.program_text.proofs.Decimals.{decimal-one, decimal-more, length_more}
 
 -- the output keeps its length
@@ -59,34 +59,34 @@ more-inside {before} {mid} {at} {j} {n} h r p = omega (arith, length_more n h, p
 
 -- ---- hexadecimal digits
 
-pub hex-figure : (d : ℕ) → d < 10 → 48 + d ≡ hexDigit d
+pub hex-figure : (d : ℕ) → d < 10 → 48 + d ≡ hex_digit d
 hex-figure d h = ap (λ (t : Bool). cond t (48 + d) (87 + d)) (sym (lt-ltb d 10 h))
 
-pub hex-letter : (d : ℕ) → 10 ≤ d → 87 + d ≡ hexDigit d
+pub hex-letter : (d : ℕ) → 10 ≤ d → 87 + d ≡ hex_digit d
 hex-letter d h = ap (λ (t : Bool). cond t (48 + d) (87 + d)) (sym (le-ltb d 10 h))
 
-pub length-hex : (k w : ℕ) → length (hexDigits k w) ≡ k
+pub length-hex : (k w : ℕ) → length (hex_digits k w) ≡ k
 length-hex zero w = refl
-length-hex (suc k) w = length-append (hexDigits k (w / 16)) (hexDigit (w % 16) ∷ []) ∙ omega (arith, length-hex k (w / 16))
+length-hex (suc k) w = length-append (hex_digits k (w / 16)) (hex_digit (w % 16) ∷ []) ∙ omega (arith, length-hex k (w / 16))
 
 pub length-hex16 : (w : ℕ) → length (hex16 w) ≡ 16
 unfolding hex16
 length-hex16 w = length-hex 16 w
 
-pub put-none : (before : List ℕ) (at w k : ℕ) → k ≡ 0 → Put before at (hexDigits k w) at before
-put-none before at w k e = subst (λ (j : ℕ). Put before at (hexDigits j w) at before) (sym e) (record { next-is = omega arith; stored = refl })
+pub put-none : (before : List ℕ) (at w k : ℕ) → k ≡ 0 → Put before at (hex_digits k w) at before
+put-none before at w k e = subst (λ (j : ℕ). Put before at (hex_digits j w) at before) (sym e) (record { next-is = omega arith; stored = refl })
 
 -- after the first k − 1 digits there is room for one more
-pub hex-inside : {before mid : List ℕ} {at j : ℕ} (w k : ℕ) → 0 < k → at + k ≤ length before → Put before at (hexDigits (k - 1) (w / 16)) j mid → j < length mid
+pub hex-inside : {before mid : List ℕ} {at j : ℕ} (w k : ℕ) → 0 < k → at + k ≤ length before → Put before at (hex_digits (k - 1) (w / 16)) j mid → j < length mid
 hex-inside {before} {mid} {at} {j} w k h r p =
-    omega (arith, length-hex (k - 1) (w / 16), p.next-is, put-length before at (hexDigits (k - 1) (w / 16)) j mid p)
+    omega (arith, length-hex (k - 1) (w / 16), p.next-is, put-length before at (hex_digits (k - 1) (w / 16)) j mid p)
 
-pub put-hex-more : {before mid : List ℕ} {at j d : ℕ} (w k : ℕ) → 0 < k → Put before at (hexDigits (k - 1) (w / 16)) j mid → d ≡ hexDigit (w % 16)
-    → Put before at (hexDigits k w) (j + 1) (set mid j d)
+pub put-hex-more : {before mid : List ℕ} {at j d : ℕ} (w k : ℕ) → 0 < k → Put before at (hex_digits (k - 1) (w / 16)) j mid → d ≡ hex_digit (w % 16)
+    → Put before at (hex_digits k w) (j + 1) (set mid j d)
 put-hex-more {before} {mid} {at} {j} {d} w k h p f =
     let e : suc (k - 1) ≡ k = omega arith in
-    rw f (subst (λ (m : ℕ). Put before at (hexDigits m w) (j + 1) (set mid j (hexDigit (w % 16)))) e
-    (put_last before mid at j (hexDigit (w % 16)) (hexDigits (k - 1) (w / 16)) p))
+    rw f (subst (λ (m : ℕ). Put before at (hex_digits m w) (j + 1) (set mid j (hex_digit (w % 16)))) e
+    (put_last before mid at j (hex_digit (w % 16)) (hex_digits (k - 1) (w / 16)) p))
 
 -- ---- given bytes
 

@@ -10,8 +10,8 @@ use lib.ListN.{set, length, length-set}
 use lib.Seq.{set_out}
 use borrow.Author.Tests.{leb-true, ltb-true, le-leb, lt-leb, lt-ltb}
 use Rattle.basics.proofs.Tests.{same_test, both}
-use Rattle.program_text.specs.Reading.{wholeLines}
-use Rattle.program_text.specs.Inner.{scan, separator, isDigit, takes, digitStep, endStep, step_of, kept}
+use Rattle.program_text.specs.Reading.{whole_lines}
+use Rattle.program_text.specs.Inner.{scan, separator, is_digit, takes, digit_step, end_step, step_of, kept}
 use Rattle.program_text.specs.declared.Scan.{Scan}
 use Rattle.program_text.specs.declared.Step.TheVariants.{On, Off}
 
@@ -34,38 +34,38 @@ pub no-product : (n s : ℕ) → n ≡ 0 → true ≡ leb (n * s) 27
 no-product n s e = rw (e, zero-mul s)
 
 -- from line 1 on
-pub whole-later : (m : ℕ) → 7 ≤ m → (eqb ((m - 7) % 5) 0 && leb ((m - 7) / 5) 1000) ≡ wholeLines m
+pub whole-later : (m : ℕ) → 7 ≤ m → (eqb ((m - 7) % 5) 0 && leb ((m - 7) / 5) 1000) ≡ whole_lines m
 whole-later m h = ap (λ (t : Bool). t && (eqb ((m - 7) % 5) 0 && leb ((m - 7) / 5) 1000)) (sym (le-leb 7 m h))
 
 pub takes-below : (b : Bool) (v d : ℕ) → takes b v d ≡ true → v * 10 + d < 2 ^ 64
 takes-below b v d e = ltb-true (v * 10 + d) (2 ^ 64) (both (not (b && eqb v 0)) (ltb (v * 10 + d) (2 ^ 64)) e).1
 
 module _ (s : Scan) (d : ℕ) where
-  pub digit-off : takes s.begun s.value d ≡ false → digitStep s d ≡ Off
+  pub digit-off : takes s.begun s.value d ≡ false → digit_step s d ≡ Off
   digit-off e = ap (λ (t : Bool). cond t (On (scan s.count (s.value * 10 + d) true)) Off) e
 
-  pub digit-on : takes s.begun s.value d ≡ true → digitStep s d ≡ On (scan s.count (s.value * 10 + d) true)
+  pub digit-on : takes s.begun s.value d ≡ true → digit_step s d ≡ On (scan s.count (s.value * 10 + d) true)
   digit-on e = ap (λ (t : Bool). cond t (On (scan s.count (s.value * 10 + d) true)) Off) e
 
 module _ (s : Scan) (b : ℕ) where
-  pub end-off : (s.begun && eqb b (separator s.count)) ≡ false → endStep s b ≡ Off
+  pub end-off : (s.begun && eqb b (separator s.count)) ≡ false → end_step s b ≡ Off
   end-off e = ap (λ (t : Bool). cond t (On (scan (s.count + 1) 0 false)) Off) e
 
-  pub end_on : (s.begun && eqb b (separator s.count)) ≡ true → endStep s b ≡ On (scan (s.count + 1) 0 false)
+  pub end_on : (s.begun && eqb b (separator s.count)) ≡ true → end_step s b ≡ On (scan (s.count + 1) 0 false)
   end_on e = ap (λ (t : Bool). cond t (On (scan (s.count + 1) 0 false)) Off) e
 
-  pub step-digit : 48 ≤ b → b ≤ 57 → step_of s b ≡ digitStep s (b - 48)
+  pub step-digit : 48 ≤ b → b ≤ 57 → step_of s b ≡ digit_step s (b - 48)
   step-digit h g =
-      let e : isDigit b ≡ true = rw (le-leb 48 b h, le-leb b 57 g) in
-      ap (λ (t : Bool). cond t (digitStep s (b - 48)) (endStep s b)) e
+      let e : is_digit b ≡ true = rw (le-leb 48 b h, le-leb b 57 g) in
+      ap (λ (t : Bool). cond t (digit_step s (b - 48)) (end_step s b)) e
 
-  pub step-below : b < 48 → step_of s b ≡ endStep s b
-  step-below h = ap (λ (t : Bool). cond (t && leb b 57) (digitStep s (b - 48)) (endStep s b)) (lt-leb 48 b h)
+  pub step-below : b < 48 → step_of s b ≡ end_step s b
+  step-below h = ap (λ (t : Bool). cond (t && leb b 57) (digit_step s (b - 48)) (end_step s b)) (lt-leb 48 b h)
 
-  pub step-above : 57 < b → step_of s b ≡ endStep s b
+  pub step-above : 57 < b → step_of s b ≡ end_step s b
   step-above h =
-      let e : isDigit b ≡ false = rw (le-leb 48 b (omega arith), lt-leb b 57 h) in
-      ap (λ (t : Bool). cond t (digitStep s (b - 48)) (endStep s b)) e
+      let e : is_digit b ≡ false = rw (le-leb 48 b (omega arith), lt-leb b 57 h) in
+      ap (λ (t : Bool). cond t (digit_step s (b - 48)) (end_step s b)) e
 
 module _ (l : List ℕ) (first : ℕ) (s t : Scan) where
   pub length-kept : length (kept l first s t) ≡ length l

@@ -5,17 +5,17 @@ use Rattle.std.proofs.lemmas.List.Edits.{sets}
 use Rattle.program_text.specs.declared.Request.{Request}
 use Rattle.program_text.specs.declared.Read.{Read}
 use Rattle.program_text.specs.declared.Read.TheVariants as Read
-use Rattle.program_text.specs.Inner.{numbersEnded, begin, fine}
+use Rattle.program_text.specs.Inner.{numbers_ended, begin, fine}
 
 -- line 1 and whole quotes, at most 1,000
-abbrev pub wholeLines : ℕ → Bool
-wholeLines m = leb 7 m && (eqb ((m - 7) % 5) 0 && leb ((m - 7) / 5) 1000)
+abbrev pub whole_lines : ℕ → Bool
+whole_lines m = leb 7 m && (eqb ((m - 7) % 5) 0 && leb ((m - 7) / 5) 1000)
 
-abbrev pub fewStates : ℕ → ℕ → Bool
-fewStates n s = leb (n * s) 27
+abbrev pub few_states : ℕ → ℕ → Bool
+few_states n s = leb (n * s) 27
 
-abbrev pub requestOf : List ℕ → Request
-requestOf ws =
+abbrev pub request_of : List ℕ → Request
+request_of ws =
     record {
       tick = get_or ws 0 0;
       buckets = get_or ws 1 0;
@@ -30,26 +30,26 @@ requestOf ws =
 -- what a text asks, with the words of its quotes; or it is bad input
 pub data Reading : Type 0 where
   asked : Request → List ℕ → Reading
-  badInput : Reading
+  bad_input : Reading
 
-abbrev pub readNumbers : List ℕ → Reading
-readNumbers ws =
-    cond (wholeLines (length ws) && fewStates (get_or ws 1 0) (get_or ws 2 0)) (asked (requestOf ws) (drop 7 ws)) badInput
+abbrev pub read_numbers : List ℕ → Reading
+read_numbers ws =
+    cond (whole_lines (length ws) && few_states (get_or ws 1 0) (get_or ws 2 0)) (asked (request_of ws) (drop 7 ws)) bad_input
 
-unfoldable pub readText : List ℕ → Reading
-readText b = cond (fine begin b) (readNumbers (numbersEnded begin b)) badInput
+unfoldable pub read_text : List ℕ → Reading
+read_text b = cond (fine begin b) (read_numbers (numbers_ended begin b)) bad_input
 
 -- ---- the answer, and what the lent recording then holds
 
-abbrev pub readAnswer : Reading → Read
-readAnswer (asked r ws) = Read.Request r
-readAnswer badInput = Read.Bad
+abbrev pub read_answer : Reading → Read
+read_answer (asked r ws) = Read.Request r
+read_answer bad_input = Read.Bad
 
 -- the words of the quotes from the front on, as far as there is room; bad input changes nothing
-abbrev pub recordingBy : Reading → List ℕ → List ℕ
-recordingBy (asked r ws) l = sets l 0 ws
-recordingBy badInput l = l
+abbrev pub recording_by : Reading → List ℕ → List ℕ
+recording_by (asked r ws) l = sets l 0 ws
+recording_by bad_input l = l
 
 pub record ReadBy (g : Reading) (before : List ℕ) (r : Read) (left : List ℕ) : Type 0 where
-  pub answer : r ≡ readAnswer g
-  pub recording : left ≡ recordingBy g before
+  pub answer : r ≡ read_answer g
+  pub recording : left ≡ recording_by g before

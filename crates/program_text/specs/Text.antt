@@ -10,13 +10,13 @@ abbrev pub digit : ℕ → ℕ
 digit d = 48 + d
 
 -- the bytes of n in decimal without leading zeros, if k steps suffice
-abbrev pub decimalIn : ℕ → ℕ → List ℕ
-decimalIn zero n = digit (n % 10) ∷ []
-decimalIn (suc k) n = cond (ltb n 10) (digit n ∷ []) (decimalIn k (n / 10) ++ digit (n % 10) ∷ [])
+abbrev pub decimal_in : ℕ → ℕ → List ℕ
+decimal_in zero n = digit (n % 10) ∷ []
+decimal_in (suc k) n = cond (ltb n 10) (digit n ∷ []) (decimal_in k (n / 10) ++ digit (n % 10) ∷ [])
 
 -- n steps do
 unfoldable pub decimal : ℕ → List ℕ
-decimal n = decimalIn n n
+decimal n = decimal_in n n
 
 -- ---- a line, and the text
 
@@ -33,22 +33,22 @@ line_of (x ∷ []) = decimal x ++ newline ∷ []
 line_of (x ∷ y ∷ ys) = decimal x ++ space ∷ line_of (y ∷ ys)
 
 -- a line a quote, five words each
-abbrev pub quoteLines : ℕ → List ℕ → List ℕ
-quoteLines zero ws = []
-quoteLines (suc k) ws = line_of (take 5 ws) ++ quoteLines k (drop 5 ws)
+abbrev pub quote_lines : ℕ → List ℕ → List ℕ
+quote_lines zero ws = []
+quote_lines (suc k) ws = line_of (take 5 ws) ++ quote_lines k (drop 5 ws)
 
 -- line 1: configuration, start and end
-abbrev pub firstLine : Request → List ℕ
-firstLine r =
+abbrev pub first_line : Request → List ℕ
+first_line r =
     r.tick ∷ r.buckets ∷ r.spread_states ∷ r.least ∷ r.gap ∷ r.start ∷ r.end ∷ []
 
 -- the text of a request and the words of its quotes
 abbrev pub text_of : Request → List ℕ → List ℕ
-text_of r ws = line_of (firstLine r) ++ quoteLines r.quotes ws
+text_of r ws = line_of (first_line r) ++ quote_lines r.quotes ws
 
 -- what may be asked: numbers below 2^64, n × s at most 27, at most 1,000 quotes
 pub record Admissible (r : Request) (ws : List ℕ) : Type 0 where
-  pub numbers : AllWords (firstLine r ++ ws)
+  pub numbers : AllWords (first_line r ++ ws)
   pub states : r.buckets * r.spread_states ≤ 27
   pub few : r.quotes ≤ 1000
   pub five : length ws ≡ 5 * r.quotes

@@ -3,17 +3,17 @@ use Rattle.std.specs.Prelude.{ℕ, zero, suc, ◌+◌, ◌/◌, ◌%◌, ◌≡�
 use Rattle.std.proofs.lemmas.List.Edits.{sets}
 
 -- the byte of a digit from 0 to 15: 0 to 9, a to f
-abbrev pub hexDigit : ℕ → ℕ
-hexDigit d = cond (ltb d 10) (48 + d) (87 + d)
+abbrev pub hex_digit : ℕ → ℕ
+hex_digit d = cond (ltb d 10) (48 + d) (87 + d)
 
 -- the last k hexadecimal digits
-abbrev pub hexDigits : ℕ → ℕ → List ℕ
-hexDigits zero w = []
-hexDigits (suc k) w = hexDigits k (w / 16) ++ hexDigit (w % 16) ∷ []
+abbrev pub hex_digits : ℕ → ℕ → List ℕ
+hex_digits zero w = []
+hex_digits (suc k) w = hex_digits k (w / 16) ++ hex_digit (w % 16) ∷ []
 
 -- 16 digits
 unfoldable pub hex16 : ℕ → List ℕ
-hex16 w = hexDigits 16 w
+hex16 w = hex_digits 16 w
 
 -- bytes stored from a place on, and the place after them
 pub record Put (before : List ℕ) (at : ℕ) (bytes : List ℕ) (next : ℕ) (left : List ℕ) : Type 0 where

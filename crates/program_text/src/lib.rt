@@ -1,10 +1,12 @@
 // The evening program's text: its reader, and what its lines are written with. Where a function has a `requires`, it is for the crates above, and each caller proves it.
+#![tactic(auto)]
+
 ghost use Rattle.std.specs.Prelude.{◌≡◌, ◌+◌, ◌≤◌, ◌<◌, ◌^◌, length};
 ghost use Rattle.basics.specs.Loan.{given, final};
 ghost use Rattle.program_text.specs.Text.{decimal};
-ghost use Rattle.program_text.specs.Written.{hexDigit, hexDigits, hex16, Put};
-ghost use Rattle.program_text.specs.Reading.{wholeLines, fewStates, readText, ReadBy};
-ghost use Rattle.program_text.specs.Inner.{separator, takes, digitStep, endStep, step_of, kept, NumbersBy};
+ghost use Rattle.program_text.specs.Written.{hex_digit, hex_digits, hex16, Put};
+ghost use Rattle.program_text.specs.Reading.{whole_lines, few_states, read_text, ReadBy};
+ghost use Rattle.program_text.specs.Inner.{separator, takes, digit_step, end_step, step_of, kept, NumbersBy};
 
 // Line 1, and the number of quotes.
 #[derive(Drop)]
@@ -70,7 +72,7 @@ fn takes(begun: bool, value: u64, d: u64) -> bool
 
 fn add_digit(s: Scan, d: u64) -> Step
     requires { d ≤ 9 }
-    ensures { result ≡ digitStep s d }
+    ensures { result ≡ digit_step s d }
 {
     if takes(s.begun, s.value, d) {
         return Step::On(Scan {
@@ -84,7 +86,7 @@ fn add_digit(s: Scan, d: u64) -> Step
 
 fn end_number(s: Scan, b: u8) -> Step
     requires { s.count + 1 < 2 ^ 64 }
-    ensures { result ≡ endStep s b }
+    ensures { result ≡ end_step s b }
 {
     let ends = b == separator(s.count);
     if s.begun & ends {
@@ -153,7 +155,7 @@ fn read_numbers(text: &[u8], first: usize, out: &mut [u64]) -> Numbers
 }
 
 fn whole_lines(m: usize) -> bool
-    ensures { result ≡ wholeLines m }
+    ensures { result ≡ whole_lines m }
 {
     if m < 7 {
         return false;
@@ -164,7 +166,7 @@ fn whole_lines(m: usize) -> bool
 
 // Judged on the exact product.
 fn few_states(n: u64, s: u64) -> bool
-    ensures { result ≡ fewStates n s }
+    ensures { result ≡ few_states n s }
 {
     if n == 0 {
         return true;
@@ -174,7 +176,7 @@ fn few_states(n: u64, s: u64) -> bool
 
 // The request of a text, and the words of its quotes in the recording, as far as it has room; or bad input, and the recording as it was.
 pub fn read_text(text: &[u8], recording: &mut [u64]) -> Read
-    ensures { ReadBy (readText (given text)) (given recording) result (final recording) }
+    ensures { ReadBy (read_text (given text)) (given recording) result (final recording) }
 {
     let mut head = [0u64; 7];
     let found = read_numbers(text, 0, &mut head);
@@ -215,7 +217,7 @@ pub fn put_number(out: &mut [u8], at: usize, n: u64) -> usize
 
 fn hex_digit(d: u64) -> u8
     requires { d < 16 }
-    ensures { result ≡ hexDigit d }
+    ensures { result ≡ hex_digit d }
 {
     if d < 10 {
         return (48 + d) as u8;
@@ -226,7 +228,7 @@ fn hex_digit(d: u64) -> u8
 // The last k hexadecimal digits.
 fn put_digits(out: &mut [u8], at: usize, w: u64, k: usize) -> usize
     requires { at + k ≤ length out.old }
-    ensures { Put (given out) at (hexDigits k w) result (final out) }
+    ensures { Put (given out) at (hex_digits k w) result (final out) }
 {
     if k == 0 {
         return at;

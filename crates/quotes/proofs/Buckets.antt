@@ -7,7 +7,7 @@ use native.Mathlib.Omega.{arith}
 use native.Mathlib.Nat.{le_refl, eq-or-lt_of_le, mod-lt, mul-le-mul_left, mul-le-mul_right, mul-lt-mul_of_pos_left, div-add-mod', add-mul, mul-add, mul_comm, div-lt_iff_lt-mul}
 use lib.Dec.{leb}
 use borrow.Author.Tests.{le-leb, lt-leb}
-use Rattle.quotes.specs.States.{leastFrom, lowerBucket, bucketOf}
+use Rattle.quotes.specs.States.{least_from, lower_bucket, bucket_of}
 use Rattle.basics.proofs.Tests.{le-or-lt}
 
 pick-le : (t : Bool) {a b n : ℕ} → a ≤ n → b ≤ n → cond t a b ≤ n
@@ -15,12 +15,12 @@ pick-le true p q = p
 pick-le false p q = q
 
 module _ (p : ℕ → Bool) where
-  least-le : (k j : ℕ) → leastFrom p j k ≤ j + k
+  least-le : (k j : ℕ) → least_from p j k ≤ j + k
   least-le zero j = omega arith
   least-le (suc k) j = pick-le (p j) (omega arith) (omega (arith, least-le k (suc j)))
 
   -- a number at which the test holds, with none before it, is the least
-  least_at : (k j m : ℕ) → j ≤ m → m < j + k → p m ≡ true → ((x : ℕ) → j ≤ x → x < m → p x ≡ false) → leastFrom p j k ≡ m
+  least_at : (k j m : ℕ) → j ≤ m → m < j + k → p m ≡ true → ((x : ℕ) → j ≤ x → x < m → p x ≡ false) → least_from p j k ≡ m
   least_at zero j m a b t none = absurd (omega arith)
   least_at (suc k) j m a b t none =
       ⊎_elim
@@ -28,14 +28,14 @@ module _ (p : ℕ → Bool) where
       (λ l. rw (none j (le_refl j) l, least_at k (suc j) m (omega arith) (omega arith) t (λ x u v. none x (omega arith) v)))
       (eq-or-lt_of_le a)
 
-pub lower-le : (lighter heavier n : ℕ) → lowerBucket lighter heavier n ≤ n - 1
+pub lower-le : (lighter heavier n : ℕ) → lower_bucket lighter heavier n ≤ n - 1
 lower-le lighter heavier n = omega (arith, least-le (λ j. leb (lighter * n) ((lighter + heavier) * j)) (n - 1) 1)
 
-pub bucket-le : (bid ask n : ℕ) → bucketOf bid ask n ≤ n - 1
+pub bucket-le : (bid ask n : ℕ) → bucket_of bid ask n ≤ n - 1
 bucket-le bid ask n = pick-le (leb bid ask) (lower-le bid ask n) (omega arith)
 
 -- the search's answer is one division's
-pub by-division : (lighter heavier n : ℕ) → lighter ≤ heavier → 1 ≤ heavier → 2 ≤ n → lowerBucket lighter heavier n ≡ (lighter * n - 1) / (lighter + heavier)
+pub by-division : (lighter heavier n : ℕ) → lighter ≤ heavier → 1 ≤ heavier → 2 ≤ n → lower_bucket lighter heavier n ≡ (lighter * n - 1) / (lighter + heavier)
 by-division lighter heavier n half some two =
     let total = lighter + heavier in
     let s = lighter * n in
@@ -48,7 +48,7 @@ by-division lighter heavier n half some two =
     let twice : s + s ≤ total * n = omega (arith, mul-le-mul_right {m = lighter + lighter} {n = total} n (omega arith), add-mul lighter lighter n) in
     let under : s - 1 < (n - 1) * total =
     omega (arith, twice, mul_comm total n, whole, mul-le-mul_right {m = 1} {n = n - 1} total (omega arith)) in
-    let found : leastFrom (λ j. leb s (total * j)) 1 (n - 1) ≡ m + 1 =
+    let found : least_from (λ j. leb s (total * j)) 1 (n - 1) ≡ m + 1 =
     least_at (λ j. leb s (total * j)) (n - 1) 1 (m + 1) (omega arith)
     (omega (arith, (div-lt_iff_lt-mul {k = total} {x = s - 1} {y = n - 1} (omega arith)).1 under))
     (le-leb s (total * (m + 1)) (omega (arith, up, e, l)))
@@ -60,16 +60,16 @@ double : (a m : ℕ) → (a + a) * m ≡ a * (m + m)
 double a m = add-mul a a m ∙ sym (mul-add a m m)
 
 -- equal sizes, n odd: the middle bucket
-middle : (a n : ℕ) → 1 ≤ a → 3 ≤ n → n % 2 ≡ 1 → lowerBucket a a n ≡ n / 2
+middle : (a n : ℕ) → 1 ≤ a → 3 ≤ n → n % 2 ≡ 1 → lower_bucket a a n ≡ n / 2
 middle a n h l odd =
-    let found : leastFrom (λ j. leb (a * n) ((a + a) * j)) 1 (n - 1) ≡ n / 2 + 1 =
+    let found : least_from (λ j. leb (a * n) ((a + a) * j)) 1 (n - 1) ≡ n / 2 + 1 =
     least_at (λ j. leb (a * n) ((a + a) * j)) (n - 1) 1 (n / 2 + 1) (omega arith) (omega arith)
     (le-leb (a * n) ((a + a) * (n / 2 + 1)) (rw double (mul-le-mul_left a (omega arith))))
     (λ x u v. lt-leb (a * n) ((a + a) * x) (rw double (mul-lt-mul_of_pos_left {k = a} (omega arith) h))) in
     omega (arith, found)
 
 -- the bucket of exchanged sizes is the mirrored bucket
-pub bucket-exchanged : (bid ask n : ℕ) → 1 ≤ bid + ask → 3 ≤ n → n % 2 ≡ 1 → bucketOf ask bid n ≡ n - 1 - bucketOf bid ask n
+pub bucket-exchanged : (bid ask n : ℕ) → 1 ≤ bid + ask → 3 ≤ n → n % 2 ≡ 1 → bucket_of ask bid n ≡ n - 1 - bucket_of bid ask n
 bucket-exchanged bid ask n h l odd =
     ⊎_elim
     (λ u.

@@ -4,16 +4,16 @@ use mathlib.Core.Path.{◌≡◌, sym, ap, ◌∙◌}
 use native.Mathlib.Omega.{arith}
 use native.Mathlib.Nat.{zero-mod, zero-div, add-mod_right, add-div_right, div-add-mod', div-le_self}
 use Rattle.basics.proofs.Lists.{flat-row, flat-column}
-use Rattle.quotes.specs.States.{bucketIn, mirrorOf}
+use Rattle.quotes.specs.States.{bucket_in, mirror_of}
 use Rattle.quotes.specs.Inner.{InLevel, HasLevel}
 use Rattle.quotes.specs.declared.inner.Level.{Level}
 use Rattle.quotes.proofs.States.{mirror-row}
 
 -- the first level begins at state 0, and each further one n states after the one before it
-pub begins-at-zero : (n : ℕ) → bucketIn n 0 ≡ 0
+pub begins-at-zero : (n : ℕ) → bucket_in n 0 ≡ 0
 begins-at-zero n = zero-mod n
 
-pub begins-next : (n first : ℕ) → bucketIn n first ≡ 0 → bucketIn n (first + n) ≡ 0
+pub begins-next : (n first : ℕ) → bucket_in n first ≡ 0 → bucket_in n (first + n) ≡ 0
 begins-next n first e = add-mod_right first n ∙ e
 
 -- a state of the level that begins at first
@@ -28,18 +28,18 @@ module _ (n first i : ℕ) (l : InLevel n first i) where
   placed = omega (arith, row, l.at_least)
 
   -- its bucket is how far it is from the first, its spread that of the first
-  pub level-bucket : i - first ≡ bucketIn n i
-  level-bucket = sym (flat-column n (first / n) (i - first) less) ∙ sym (ap (bucketIn n) placed)
+  pub level-bucket : i - first ≡ bucket_in n i
+  level-bucket = sym (flat-column n (first / n) (i - first) less) ∙ sym (ap (bucket_in n) placed)
 
   level-row : i / n ≡ first / n
   level-row = ap (λ (k : ℕ). k / n) placed ∙ flat-row n (first / n) (i - first) less
 
   -- its mirror is as far from the level's last state as it is from the first
-  pub level-mirror : first + (n - 1 - (i - first)) ≡ mirrorOf n i
+  pub level-mirror : first + (n - 1 - (i - first)) ≡ mirror_of n i
   level-mirror =
       ap (λ (f : ℕ). f + (n - 1 - (i - first))) row
       ∙ sym (mirror-row n (first / n) (i - first) less)
-      ∙ sym (ap (mirrorOf n) placed)
+      ∙ sym (ap (mirror_of n) placed)
 
 -- ---- the walk
 

@@ -6,11 +6,11 @@ use mathlib.Core.List.{List, [], ◌∷◌, map, Memᴰ, head-eq_of_cons-eq, tai
 use mathlib.Core.Logic.{⊎_elim}
 use Rattle.refusals.specs.Refusals.{refusal}
 use Rattle.refusals.specs.declared.Check.{Check}
-use Rattle.config.specs.Configuration.{newConfig, withMinStateObservations, withMaxQuoteGapMs}
+use Rattle.config.specs.Configuration.{new_config, with_min_state_observations, with_max_quote_gap_ms}
 use Rattle.config.specs.declared.MicroPriceConfig.{MicroPriceConfig}
-use Rattle.quotes.specs.Quotes.{checkQuote}
-use Rattle.quotes.specs.States.{withMirror, state_of, mirrorStateOf}
-use Rattle.quotes.specs.Neighbours.{neighboursOf}
+use Rattle.quotes.specs.Quotes.{check_quote}
+use Rattle.quotes.specs.States.{with_mirror, state_of, mirror_state_of}
+use Rattle.quotes.specs.Neighbours.{neighbours_of}
 use Rattle.quotes.specs.declared.MirrorState.{MirrorState}
 use Rattle.quotes.specs.declared.MirrorState.TheVariants as Mirror
 use Rattle.quotes.specs.declared.Neighbours.{Neighbours}
@@ -22,7 +22,7 @@ use Rattle.quotes.specs.declared.TopOfBook.{TopOfBook}
 
 -- the configuration of a tick
 abbrev pub marked : ℕ → MicroPriceConfig
-marked tick = withMaxQuoteGapMs (withMinStateObservations (newConfig tick 3 2) 1) 1000
+marked tick = with_max_quote_gap_ms (with_min_state_observations (new_config tick 3 2) 1) 1000
 
 abbrev quote : ℕ → ℕ → ℕ → ℕ → ℕ → TopOfBook
 quote t bid ask x y = record { timestamp_ms = t; bid = bid; ask = ask; bid_size = x; ask_size = y }
@@ -42,9 +42,9 @@ pub data Answer : Type 0 where
 
 abbrev pub answer : Question → Answer
 answer (sizes x y) = place (state_of (marked 1) (quote 0 100 101 x y))
-answer (mirror i) = mirrors (mirrorStateOf (marked 1) i)
-answer (gap ms) = neighbours (neighboursOf (marked 1) (quote 0 100 101 5 5) (quote ms 100 101 5 5))
-answer (offered tick q) = check (checkQuote (marked tick) q)
+answer (mirror i) = mirrors (mirror_state_of (marked 1) i)
+answer (gap ms) = neighbours (neighbours_of (marked 1) (quote 0 100 101 5 5) (quote ms 100 101 5 5))
+answer (offered tick q) = check (check_quote (marked tick) q)
 
 pub record Row : Type 0 where
   pub asks : Question
@@ -55,7 +55,7 @@ row q a = record { asks = q; gives = a }
 
 -- at a spread of one tick the state is the bucket
 abbrev bucket : ℕ → Answer
-bucket b = place (State (withMirror 3 b))
+bucket b = place (State (with_mirror 3 b))
 
 abbrev pub table : List Row
 table =
@@ -69,7 +69,7 @@ table =
     row (mirror 0) (mirrors (Mirror.State 2)) ∷
     row (mirror 4) (mirrors (Mirror.State 4)) ∷
     row (mirror 3) (mirrors (Mirror.State 5)) ∷
-    row (gap 1000) (neighbours (Counted (record { from = withMirror 3 1; to = withMirror 3 1; mid_from = 201; mid_to = 201 }))) ∷
+    row (gap 1000) (neighbours (Counted (record { from = with_mirror 3 1; to = with_mirror 3 1; mid_from = 201; mid_to = 201 }))) ∷
     row (gap 1001) (neighbours (Skipped Gap)) ∷
     row (offered 5 (quote 0 100 107 5 5)) (check (refusal 4)) ∷
     []

@@ -4,7 +4,7 @@ use Rattle.std.specs.Prelude.{ℕ, ◌+◌, ◌%◌, ◌≤◌, ◌<◌, ◌≡�
 use Rattle.basics.specs.Domain.{most}
 use Rattle.config.specs.Configuration.{states}
 use Rattle.config.specs.declared.MicroPriceConfig.{MicroPriceConfig}
-use Rattle.quotes.specs.States.{spreadIn, bucketIn, mirrorOf}
+use Rattle.quotes.specs.States.{spread_in, bucket_in, mirror_of}
 use Rattle.quotes.specs.declared.At.{At}
 use Rattle.quotes.specs.declared.TopOfBook.{TopOfBook}
 use Rattle.quotes.specs.declared.inner.Level.{Level}
@@ -24,15 +24,15 @@ pub record Accepted (c : MicroPriceConfig) (q : TopOfBook) : Type 0 where
 pub record Located (c : MicroPriceConfig) (a : At) : Type 0 where
   pub below : a.state < states c
   pub mirror-below : a.mirror < states c
-  pub mirrors : a.mirror ≡ mirrorOf c.imbalance_buckets a.state
+  pub mirrors : a.mirror ≡ mirror_of c.imbalance_buckets a.state
 
 -- state i is of the spread level that begins at state first
 pub record InLevel (n first i : ℕ) : Type 0 where
-  pub begins : bucketIn n first ≡ 0
+  pub begins : bucket_in n first ≡ 0
   pub at_least : first ≤ i
   pub before : i < first + n
 
 -- the spread level of state i
 pub record HasLevel (n : ℕ) (level : Level) (i : ℕ) : Type 0 where
-  pub spread-is : level.spread ≡ spreadIn n i
+  pub spread-is : level.spread ≡ spread_in n i
   pub within : InLevel n level.first i

@@ -1,8 +1,8 @@
 -- What two neighbouring quotes are: document 01, "New, and one quote".
 use Rattle.std.specs.Prelude.{ℕ, ◌-◌, cond, ltb}
 use Rattle.config.specs.declared.MicroPriceConfig.{MicroPriceConfig}
-use Rattle.quotes.specs.Quotes.{halfTicks}
-use Rattle.quotes.specs.States.{place_of, mirrorAt}
+use Rattle.quotes.specs.Quotes.{half_ticks}
+use Rattle.quotes.specs.States.{place_of, mirror_at}
 use Rattle.quotes.specs.declared.Neighbours.{Neighbours}
 use Rattle.quotes.specs.declared.Neighbours.TheVariants.{Skipped, Counted}
 use Rattle.quotes.specs.declared.Place.{Place}
@@ -17,13 +17,13 @@ paired (State i) (NoState r) a b = Skipped Spread
 paired (NoState r) place a b = Skipped Spread
 
 -- a pair between the mirrored states, its mids as they are; a skip as it is
-abbrev pub mirrorNeighbours : Neighbours → Neighbours
-mirrorNeighbours (Skipped k) = Skipped k
-mirrorNeighbours (Counted e) =
-    Counted (record { from = mirrorAt e.from; to = mirrorAt e.to; mid_from = e.mid_from; mid_to = e.mid_to })
+abbrev pub mirror_neighbours : Neighbours → Neighbours
+mirror_neighbours (Skipped k) = Skipped k
+mirror_neighbours (Counted e) =
+    Counted (record { from = mirror_at e.from; to = mirror_at e.to; mid_from = e.mid_from; mid_to = e.mid_to })
 
 -- gap over the limit: a gap skip (the limit itself counts); else either spread over s: a spread skip; else a pair
-abbrev pub neighboursOf : MicroPriceConfig → TopOfBook → TopOfBook → Neighbours
-neighboursOf c p q =
+abbrev pub neighbours_of : MicroPriceConfig → TopOfBook → TopOfBook → Neighbours
+neighbours_of c p q =
     cond (ltb c.max_quote_gap_ms (q.timestamp_ms - p.timestamp_ms)) (Skipped Gap)
-    (paired (place_of c p) (place_of c q) (halfTicks c p) (halfTicks c q))
+    (paired (place_of c p) (place_of c q) (half_ticks c p) (half_ticks c q))

@@ -1,42 +1,42 @@
 -- A quote by itself: document 01, "New, and one quote".
 use Rattle.std.specs.Prelude.{ℕ, ◌+◌, ◌-◌, ◌/◌, ◌%◌, Bool, not, ◌||◌, ◌&&◌, leb, ltb, eqb}
 use Rattle.basics.specs.Domain.{most}
-use Rattle.refusals.specs.Refusals.{refuseIf, first_of}
+use Rattle.refusals.specs.Refusals.{refuse_if, first_of}
 use Rattle.refusals.specs.declared.Check.{Check}
 use Rattle.config.specs.declared.MicroPriceConfig.{MicroPriceConfig}
 use Rattle.quotes.specs.declared.TopOfBook.{TopOfBook}
 
 -- 2: a price or a size over the domain
-abbrev pub overDomain : TopOfBook → Bool
-overDomain q = ltb most q.bid || ltb most q.ask || ltb most q.bid_size || ltb most q.ask_size
+abbrev pub over_domain : TopOfBook → Bool
+over_domain q = ltb most q.bid || ltb most q.ask || ltb most q.bid_size || ltb most q.ask_size
 
 -- 3: bid 0, ask ≤ bid, both sizes 0
-abbrev pub badQuote : TopOfBook → Bool
-badQuote q = eqb q.bid 0 || leb q.ask q.bid || eqb q.bid_size 0 && eqb q.ask_size 0
+abbrev pub bad_quote : TopOfBook → Bool
+bad_quote q = eqb q.bid 0 || leb q.ask q.bid || eqb q.bid_size 0 && eqb q.ask_size 0
 
 -- a price that is a multiple of the tick
-abbrev pub onGrid : MicroPriceConfig → ℕ → Bool
-onGrid c price = eqb (price % c.tick_size) 0
+abbrev pub on_grid : MicroPriceConfig → ℕ → Bool
+on_grid c price = eqb (price % c.tick_size) 0
 
 -- such a price in ticks
-abbrev pub inTicks : MicroPriceConfig → ℕ → ℕ
-inTicks c price = price / c.tick_size
+abbrev pub in_ticks : MicroPriceConfig → ℕ → ℕ
+in_ticks c price = price / c.tick_size
 
 -- 4: either price not a multiple of tick
-abbrev pub offTick : MicroPriceConfig → TopOfBook → Bool
-offTick c q = not (onGrid c q.bid) || not (onGrid c q.ask)
+abbrev pub off_tick : MicroPriceConfig → TopOfBook → Bool
+off_tick c q = not (on_grid c q.bid) || not (on_grid c q.ask)
 
 -- the refusals of a quote by itself, in their order
-abbrev pub checkQuote : MicroPriceConfig → TopOfBook → Check
-checkQuote c q = first_of (refuseIf (overDomain q) 2) (first_of (refuseIf (badQuote q) 3) (refuseIf (offTick c q) 4))
+abbrev pub check_quote : MicroPriceConfig → TopOfBook → Check
+check_quote c q = first_of (refuse_if (over_domain q) 2) (first_of (refuse_if (bad_quote q) 3) (refuse_if (off_tick c q) 4))
 
 -- the spread in ticks
 abbrev pub spread_of : MicroPriceConfig → TopOfBook → ℕ
-spread_of c q = inTicks c q.ask - inTicks c q.bid
+spread_of c q = in_ticks c q.ask - in_ticks c q.bid
 
 -- the mid in half ticks, document 01's half ticks: (bid + ask) / tick, by the law half-ticks-whole
-abbrev pub halfTicks : MicroPriceConfig → TopOfBook → ℕ
-halfTicks c q = inTicks c q.bid + inTicks c q.ask
+abbrev pub half_ticks : MicroPriceConfig → TopOfBook → ℕ
+half_ticks c q = in_ticks c q.bid + in_ticks c q.ask
 
 -- a quote with its sizes exchanged
 abbrev pub exchanged : TopOfBook → TopOfBook

@@ -2,10 +2,10 @@
 ghost use Rattle.std.specs.Prelude.{◌≡◌, ◌+◌, ◌-◌, ◌*◌, ◌≤◌, ◌<◌};
 ghost use Rattle.basics.specs.Domain.{most};
 ghost use Rattle.config.specs.Inner.{Valid};
-ghost use Rattle.quotes.specs.Quotes.{overDomain, badQuote, onGrid, inTicks, offTick, checkQuote, spread_of, halfTicks};
+ghost use Rattle.quotes.specs.Quotes.{over_domain, bad_quote, on_grid, in_ticks, off_tick, check_quote, spread_of, half_ticks};
 ghost use Rattle.quotes.specs.Inner.{Accepted, InLevel, HasLevel};
-ghost use Rattle.quotes.specs.States.{lowerBucket, bucketOf, mirrorOf, place_of};
-ghost use Rattle.quotes.specs.Neighbours.{paired, neighboursOf};
+ghost use Rattle.quotes.specs.States.{lower_bucket, bucket_of, mirror_of, place_of};
+ghost use Rattle.quotes.specs.Neighbours.{paired, neighbours_of};
 
 use super::{At, Neighbours, Pair, Place, Reason, Skip, TopOfBook};
 use basics::DOMAIN;
@@ -20,34 +20,34 @@ pub struct Level {
 }
 
 fn is_over(q: TopOfBook) -> bool
-    ensures { result ≡ overDomain q }
+    ensures { result ≡ over_domain q }
 {
     (DOMAIN < q.bid) | (DOMAIN < q.ask) | (DOMAIN < q.bid_size) | (DOMAIN < q.ask_size)
 }
 
 fn is_bad(q: TopOfBook) -> bool
-    ensures { result ≡ badQuote q }
+    ensures { result ≡ bad_quote q }
 {
     (q.bid == 0) | (q.ask <= q.bid) | ((q.bid_size == 0) & (q.ask_size == 0))
 }
 
 fn on_grid(config: MicroPriceConfig, price: u64) -> bool
     requires { 1 ≤ config.tick_size }
-    ensures { result ≡ onGrid config price }
+    ensures { result ≡ on_grid config price }
 {
     price % config.tick_size == 0
 }
 
 fn in_ticks(config: MicroPriceConfig, price: u64) -> u64
     requires { 1 ≤ config.tick_size }
-    ensures { result ≡ inTicks config price }
+    ensures { result ≡ in_ticks config price }
 {
     price / config.tick_size
 }
 
 fn is_off_tick(config: MicroPriceConfig, q: TopOfBook) -> bool
     requires { 1 ≤ config.tick_size }
-    ensures { result ≡ offTick config q }
+    ensures { result ≡ off_tick config q }
 {
     !on_grid(config, q.bid) | !on_grid(config, q.ask)
 }
@@ -55,7 +55,7 @@ fn is_off_tick(config: MicroPriceConfig, q: TopOfBook) -> bool
 // The first of refusals 2, 3 and 4.
 pub fn check_quote(config: MicroPriceConfig, q: TopOfBook) -> Check
     requires { 1 ≤ config.tick_size }
-    ensures { result ≡ checkQuote config q }
+    ensures { result ≡ check_quote config q }
 {
     if is_over(q) {
         return Check::Refused(Refusal::OverDomain);
@@ -72,7 +72,7 @@ pub fn check_quote(config: MicroPriceConfig, q: TopOfBook) -> Check
 // The bucket of a book with `lighter` on the bid, by one division; 1 stands in for 0, as both give bucket 0.
 fn lower_bucket(lighter: u64, heavier: u64, n: u64) -> u64
     requires { (lighter ≤ heavier) × (1 ≤ heavier) × (heavier ≤ most) × (2 ≤ n) × (n ≤ 256) }
-    ensures { result ≡ lowerBucket lighter heavier n }
+    ensures { result ≡ lower_bucket lighter heavier n }
 {
     let scaled = basics::larger(lighter * n, 1);
     (scaled - 1) / (lighter + heavier)
@@ -80,7 +80,7 @@ fn lower_bucket(lighter: u64, heavier: u64, n: u64) -> u64
 
 fn bucket_of(bid: u64, ask: u64, n: u64) -> u64
     requires { (bid ≤ most) × (ask ≤ most) × (1 ≤ bid + ask) × (2 ≤ n) × (n ≤ 256) }
-    ensures { result ≡ bucketOf bid ask n }
+    ensures { result ≡ bucket_of bid ask n }
 {
     let b = lower_bucket(basics::smaller(bid, ask), basics::larger(bid, ask), n);
     if bid <= ask { b } else { n - 1 - b }
@@ -95,7 +95,7 @@ fn spread_of(config: MicroPriceConfig, q: TopOfBook) -> u64
 
 pub fn half_ticks(config: MicroPriceConfig, q: TopOfBook) -> u64
     requires { Valid config × Accepted config q }
-    ensures { result ≡ halfTicks config q }
+    ensures { result ≡ half_ticks config q }
 {
     in_ticks(config, q.bid) + in_ticks(config, q.ask)
 }
@@ -121,7 +121,7 @@ pub fn place_of(config: MicroPriceConfig, q: TopOfBook) -> Place
 // The mirror of a state of the spread level that begins at `first`.
 pub fn mirror_in(n: usize, first: usize, state: usize) -> usize
     requires { InLevel n first state × (n ≤ 256) × (state < 256) }
-    ensures { result ≡ mirrorOf n state }
+    ensures { result ≡ mirror_of n state }
 {
     first + (n - 1 - (state - first))
 }
@@ -143,7 +143,7 @@ pub fn level_after(n: usize, level: Level, state: usize) -> Level
 // The mirror of any state: its spread level is found by adding n, without a division.
 pub fn mirror_of(n: u64, state: usize) -> usize
     requires { (1 ≤ n) × (n ≤ 256) × (state < 256) }
-    ensures { result ≡ mirrorOf n state }
+    ensures { result ≡ mirror_of n state }
 {
     let w = n as usize;
     let mut first: usize = 0;
@@ -155,7 +155,7 @@ pub fn mirror_of(n: u64, state: usize) -> usize
 
 fn pair_of(config: MicroPriceConfig, p: TopOfBook, q: TopOfBook) -> Neighbours
     requires { Valid config × Accepted config p × Accepted config q }
-    ensures { result ≡ paired (place_of config p) (place_of config q) (halfTicks config p) (halfTicks config q) }
+    ensures { result ≡ paired (place_of config p) (place_of config q) (half_ticks config p) (half_ticks config q) }
 {
     let a = place_of(config, p);
     let b = place_of(config, q);
@@ -176,7 +176,7 @@ fn pair_of(config: MicroPriceConfig, p: TopOfBook, q: TopOfBook) -> Neighbours
 // What two accepted quotes are, the earlier one first.
 pub fn neighbours(config: MicroPriceConfig, p: TopOfBook, q: TopOfBook) -> Neighbours
     requires { Valid config × Accepted config p × Accepted config q × (p.timestamp_ms ≤ q.timestamp_ms) }
-    ensures { result ≡ neighboursOf config p q }
+    ensures { result ≡ neighbours_of config p q }
 {
     if config.max_quote_gap_ms < q.timestamp_ms - p.timestamp_ms {
         return Neighbours::Skipped(Skip::Gap);

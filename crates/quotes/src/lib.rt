@@ -1,11 +1,13 @@
 // Quotes, states and mirrors (document 01, "New, and one quote", "State and mirror").
+#![tactic(auto)]
+
 use config::MicroPriceConfig;
 use refusals::{Check, Refusal};
 
 pub mod inner;
 
 ghost use Rattle.std.specs.Prelude.{◌≡◌};
-ghost use Rattle.quotes.specs.States.{state_of, mirrorStateOf};
+ghost use Rattle.quotes.specs.States.{state_of, mirror_state_of};
 
 // Best bid and ask with their sizes, in whole units.
 #[derive(Drop)]
@@ -86,7 +88,7 @@ pub fn state_of(config: MicroPriceConfig, quote: TopOfBook) -> Place
 
 // The state with the imbalance bucket mirrored.
 pub fn mirror(config: MicroPriceConfig, state: usize) -> MirrorState
-    ensures { result ≡ mirrorStateOf config state }
+    ensures { result ≡ mirror_state_of config state }
 {
     if !config::inner::is_valid(config) {
         return MirrorState::NoState;

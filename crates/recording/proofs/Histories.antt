@@ -9,7 +9,7 @@ use native.Mathlib.Omega.{arith}
 use borrow.Author.Tests.{eq-eqb, le-ltb}
 use Rattle.basics.proofs.Tests.{zero-not-one}
 use Rattle.basics.specs.Lists.{bit, count}
-use Rattle.refusals.specs.Refusals.{refusal, refuseIf, first_of}
+use Rattle.refusals.specs.Refusals.{refusal, refuse_if, first_of}
 use Rattle.refusals.specs.declared.Check.{Check}
 use Rattle.refusals.specs.declared.Check.TheVariants.{Fine, Refused}
 use Rattle.refusals.specs.declared.Refusal.{Refusal}
@@ -18,22 +18,22 @@ use Rattle.config.specs.Configuration.{states, valid}
 use Rattle.config.specs.Inner.{Valid}
 use Rattle.config.specs.declared.MicroPriceConfig.{MicroPriceConfig}
 use Rattle.config.proofs.Known.{valid-known}
-use Rattle.quotes.specs.Quotes.{overDomain, badQuote, offTick, checkQuote}
+use Rattle.quotes.specs.Quotes.{over_domain, bad_quote, off_tick, check_quote}
 use Rattle.quotes.specs.declared.TopOfBook.{TopOfBook}
 use Rattle.tally.specs.Balance.{Sized}
 use Rattle.tally.specs.Events.{zeros}
-use Rattle.tally.specs.Limits.{overLimit, touched}
-use Rattle.tally.specs.Rules.{Memory, step, events, memoryOf}
+use Rattle.tally.specs.Limits.{over_limit, touched}
+use Rattle.tally.specs.Rules.{Memory, step, events, memory_of}
 use Rattle.tally.proofs.Balance.{after_none, after-sized, zeros-sized}
 use Rattle.tally.proofs.Overs.{zeros_within, over-touched}
 use Rattle.tally.proofs.Step.{carried-snoc, step-memory}
 use Rattle.calibrator.specs.Record.{kinds, Outcome, answered}
-use Rattle.calibrator.specs.Observe.{rule, checkMemory, broken, earlier, judge, refusalBy, observed, fresh}
+use Rattle.calibrator.specs.Observe.{rule, check_memory, broken, earlier, judge, refusal_by, observed, fresh}
 use Rattle.calibrator.specs.declared.Previous.{Previous}
 use Rattle.calibrator.specs.declared.Previous.TheVariants.{Nothing}
 use Rattle.calibrator.proofs.Step.{rule-lawful}
 use Rattle.recording.specs.Recording.{sorted_from, sorted, filter}
-use Rattle.recording.specs.Observe.{isInvalid, isStop, RecordedOutcome, recordedAs, recorded, unusable, usable}
+use Rattle.recording.specs.Observe.{is_invalid, is_stop, RecordedOutcome, recorded_as, recorded, unusable, usable}
 use Rattle.recording.proofs.Recordings.{sorted-known}
 use Rattle.recording.proofs.Runs.{goes_on, stops_at}
 
@@ -43,12 +43,12 @@ use Rattle.recording.proofs.Runs.{goes_on, stops_at}
 data Judged (k : Check) : Type 0 where
   fine : k ≡ Fine → Judged k
   stopped : k ≡ refusal 2 → Judged k
-  invalid : (r : Refusal) → k ≡ Refused r → isInvalid (Refused r) ≡ true → isStop (Refused r) ≡ false → Judged k
+  invalid : (r : Refusal) → k ≡ Refused r → is_invalid (Refused r) ≡ true → is_stop (Refused r) ≡ false → Judged k
 
-judged : (c : MicroPriceConfig) (q : TopOfBook) → Judged (checkQuote c q)
-judged c q = go (overDomain q) (badQuote q) (offTick c q)
+judged : (c : MicroPriceConfig) (q : TopOfBook) → Judged (check_quote c q)
+judged c q = go (over_domain q) (bad_quote q) (off_tick c q)
   where
-    go : (a b d : Bool) → Judged (first_of (refuseIf a 2) (first_of (refuseIf b 3) (refuseIf d 4)))
+    go : (a b d : Bool) → Judged (first_of (refuse_if a 2) (first_of (refuse_if b 3) (refuse_if d 4)))
     go true b d = stopped refl
     go false true d = invalid BadQuote refl refl refl
     go false false true = invalid OffTick refl refl refl
@@ -64,7 +64,7 @@ past-fine (Refused r) b = refl
 
 -- the memory of a history of a new calibrator
 abbrev held : MicroPriceConfig → List TopOfBook → Memory Previous
-held c H = memoryOf (rule c) Nothing (zeros kinds (states c)) H
+held c H = memory_of (rule c) Nothing (zeros kinds (states c)) H
 
 module _ (c : MicroPriceConfig) (e : valid c ≡ true) where
   v : Valid c
@@ -73,7 +73,7 @@ module _ (c : MicroPriceConfig) (e : valid c ≡ true) where
   sized : (H : List TopOfBook) → Sized kinds (states c) (held c H).counts
   sized H = after-sized kinds (states c) (rule c).mirror (zeros kinds (states c)) (events (rule c) Nothing H)
 
-  enough : (H : List TopOfBook) → checkMemory c (held c H) ≡ Fine
+  enough : (H : List TopOfBook) → check_memory c (held c H) ≡ Fine
   enough H =
       let s = sized H in
       rw (e, eq-eqb _ _ s.stay-cells, eq-eqb _ _ s.moved-cells, eq-eqb _ _ s.totals-cells)
@@ -82,11 +82,11 @@ module _ (c : MicroPriceConfig) (e : valid c ≡ true) where
   record Ready (t : ℕ) (H : List TopOfBook) : Type 0 where
     sound : broken c (held c H).last ≡ false
     late : (q : TopOfBook) → t ≤ q.timestamp_ms → earlier (held c H).last q ≡ false
-    within : overLimit (held c H).counts ≡ false
+    within : over_limit (held c H).counts ≡ false
 
   -- the history with a quote passes a limit
   abbrev passes : List TopOfBook → TopOfBook → Bool
-  passes H q = overLimit (held c (H ++ q ∷ [])).counts
+  passes H q = over_limit (held c (H ++ q ∷ [])).counts
 
   one_more : (H : List TopOfBook) (q : TopOfBook) → step (rule c) (held c H) q ≡ held c (H ++ q ∷ [])
   one_more H q = step-memory (rule c) (rule-lawful c v) Nothing (zeros kinds (states c)) H q
@@ -97,13 +97,13 @@ module _ (c : MicroPriceConfig) (e : valid c ≡ true) where
     six =
         sym (over-touched kinds (states c) (rule c).mirror (rule-lawful c v).mirror-below (held c H).counts (sized H) h.within
         ((rule c).event (held c H).last q) ((rule-lawful c v).event-in (held c H).last q))
-        ∙ ap (λ (m : Memory Previous). overLimit m.counts) (one_more H q)
+        ∙ ap (λ (m : Memory Previous). over_limit m.counts) (one_more H q)
 
     -- such a quote is refused by 2, 3, 4 or 6
-    refusal_is : t ≤ q.timestamp_ms → refusalBy (rule c) (judge c) (held c H) q ≡ first_of (checkQuote c q) (refuseIf (passes H q) 6)
-    refusal_is l = rw (enough H, h.sound, h.late q l, six) (past-fine (checkQuote c q) _)
+    refusal_is : t ≤ q.timestamp_ms → refusal_by (rule c) (judge c) (held c H) q ≡ first_of (check_quote c q) (refuse_if (passes H q) 6)
+    refusal_is l = rw (enough H, h.sound, h.late q l, six) (past-fine (check_quote c q) _)
 
-    next-ready : checkQuote c q ≡ Fine → passes H q ≡ false → Ready q.timestamp_ms (H ++ q ∷ [])
+    next-ready : check_quote c q ≡ Fine → passes H q ≡ false → Ready q.timestamp_ms (H ++ q ∷ [])
     next-ready f w =
         let last = carried-snoc (rule c) Nothing H q in
         record {
@@ -122,11 +122,11 @@ module _ (c : MicroPriceConfig) (e : valid c ≡ true) where
     answer-is : Ended r.answer
     left_is : r.answer ≡ Fine → r.left ≡ held c (H ++ filter (usable c) qs)
     invalid-is : r.answer ≡ Fine → r.invalid ≡ k + count (unusable c) qs
-    within : overLimit r.left.counts ≡ false
+    within : over_limit r.left.counts ≡ false
 
   -- a stop leaves the memory of the history
   stopped-counted : (t : ℕ) (H qs : List TopOfBook) (k : ℕ) (x : Refusal) → Ready t H → (Refused x ≡ refusal 2) ⊎ (Refused x ≡ refusal 6)
-      → Counted H qs k (recordedAs (Refused x) k (held c H))
+      → Counted H qs k (recorded_as (Refused x) k (held c H))
   stopped-counted t H qs k x h d =
       record {
         answer-is = inr d;
@@ -136,7 +136,7 @@ module _ (c : MicroPriceConfig) (e : valid c ≡ true) where
       }
 
   module _ (H qs : List TopOfBook) (q : TopOfBook) (k : ℕ) (r : RecordedOutcome Previous) where
-    fine_more : checkQuote c q ≡ Fine → Counted (H ++ q ∷ []) qs (k + 0) r → Counted H (q ∷ qs) k r
+    fine_more : check_quote c q ≡ Fine → Counted (H ++ q ∷ []) qs (k + 0) r → Counted H (q ∷ qs) k r
     fine_more f d =
         record {
           answer-is = d.answer-is;
@@ -144,7 +144,7 @@ module _ (c : MicroPriceConfig) (e : valid c ≡ true) where
               λ u.
               d.left_is u
               ∙ ap (held c) (append_assoc H (q ∷ []) (filter (usable c) qs))
-              ∙ sym (ap (λ (a : Check). held c (H ++ cond (not (isInvalid a)) (q ∷ filter (usable c) qs) (filter (usable c) qs))) f);
+              ∙ sym (ap (λ (a : Check). held c (H ++ cond (not (is_invalid a)) (q ∷ filter (usable c) qs) (filter (usable c) qs))) f);
           invalid-is = λ u. d.invalid-is u ∙ rw f (omega arith);
           within = d.within;
         }
@@ -164,17 +164,17 @@ module _ (c : MicroPriceConfig) (e : valid c ≡ true) where
     outcome a = answered a (held c H) (step (rule c) (held c H) q)
 
     -- where the refusal is known
-    is-observed : (a : Check) → first_of (checkQuote c q) (refuseIf (passes H q) 6) ≡ a → outcome a ≡ observed c (held c H) q
+    is-observed : (a : Check) → first_of (check_quote c q) (refuse_if (passes H q) 6) ≡ a → outcome a ≡ observed c (held c H) q
     is-observed a d = sym (ap outcome (refusal_is t H h q l ∙ d))
 
-    counted_stop : (x : Refusal) → isStop (Refused x) ≡ true → first_of (checkQuote c q) (refuseIf (passes H q) 6) ≡ Refused x
+    counted_stop : (x : Refusal) → is_stop (Refused x) ≡ true → first_of (check_quote c q) (refuse_if (passes H q) 6) ≡ Refused x
         → (Refused x ≡ refusal 2) ⊎ (Refused x ≡ refusal 6) → Counted H (q ∷ qs) k (recorded c (q ∷ qs) k (held c H))
     counted_stop x s d u =
         subst (Counted H (q ∷ qs) k)
         (sym (stops_at (observed c) q qs k (held c H) (outcome (Refused x)) (is-observed (Refused x) d) s))
         (stopped-counted t H (q ∷ qs) k x h u)
 
-    counted-fine : checkQuote c q ≡ Fine → passes H q ≡ false → Counted (H ++ q ∷ []) qs (k + 0) (recorded c qs (k + 0) (held c (H ++ q ∷ [])))
+    counted-fine : check_quote c q ≡ Fine → passes H q ≡ false → Counted (H ++ q ∷ []) qs (k + 0) (recorded c qs (k + 0) (held c (H ++ q ∷ [])))
         → Counted H (q ∷ qs) k (recorded c (q ∷ qs) k (held c H))
     counted-fine f w d =
         fine_more H qs q k _ f
@@ -183,10 +183,10 @@ module _ (c : MicroPriceConfig) (e : valid c ≡ true) where
         ∙ sym (goes_on (observed c) q qs k (held c H) (outcome Fine) (is-observed Fine (rw (f, w))) refl))
         d)
 
-    counted-invalid : (x : Refusal) → checkQuote c q ≡ Refused x → isInvalid (Refused x) ≡ true → isStop (Refused x) ≡ false
+    counted-invalid : (x : Refusal) → check_quote c q ≡ Refused x → is_invalid (Refused x) ≡ true → is_stop (Refused x) ≡ false
         → Counted H qs (k + 1) (recorded c qs (k + 1) (held c H)) → Counted H (q ∷ qs) k (recorded c (q ∷ qs) k (held c H))
     counted-invalid x f i s d =
-        invalid-more H qs q k _ (ap isInvalid f ∙ i)
+        invalid-more H qs q k _ (ap is_invalid f ∙ i)
         (subst (Counted H qs (k + 1))
         (sym (goes_on (observed c) q qs k (held c H) (outcome (Refused x)) (is-observed (Refused x) (rw f)) s
         ∙ ap (λ (b : Bool). recorded c qs (k + bit b) (held c H)) i))
@@ -206,8 +206,8 @@ module _ (c : MicroPriceConfig) (e : valid c ≡ true) where
       (counted qs q.timestamp_ms H (k + 1) (later t H h q n.0) n.1) (judged c q)
     where
       go : t ≤ q.timestamp_ms
-          → (passes H q ≡ false → checkQuote c q ≡ Fine → Counted (H ++ q ∷ []) qs (k + 0) (recorded c qs (k + 0) (held c (H ++ q ∷ []))))
-          → Counted H qs (k + 1) (recorded c qs (k + 1) (held c H)) → Judged (checkQuote c q) → Counted H (q ∷ qs) k (recorded c (q ∷ qs) k (held c H))
+          → (passes H q ≡ false → check_quote c q ≡ Fine → Counted (H ++ q ∷ []) qs (k + 0) (recorded c qs (k + 0) (held c (H ++ q ∷ []))))
+          → Counted H qs (k + 1) (recorded c qs (k + 1) (held c H)) → Judged (check_quote c q) → Counted H (q ∷ qs) k (recorded c (q ∷ qs) k (held c H))
       go l f i (stopped j) = counted_stop t H qs q k h l OverDomain refl (rw j) (inl refl)
       go l f i (invalid x j a b) = counted-invalid t H qs q k h l x j a b i
       go l f i (fine j) = limits (passes H q) refl
@@ -232,7 +232,7 @@ module _ (c : MicroPriceConfig) (e : valid c ≡ true) where
         record {
           sound = refl;
           late = λ q l. refl;
-          within = ap (λ (m : Memory Previous). overLimit m.counts) empty-is ∙ zeros_within kinds (states c);
+          within = ap (λ (m : Memory Previous). over_limit m.counts) empty-is ∙ zeros_within kinds (states c);
         }
 
     all : Counted [] qs 0 (recorded c qs 0 (fresh c))
@@ -244,12 +244,12 @@ module _ (c : MicroPriceConfig) (e : valid c ≡ true) where
 
     -- if nothing does, its memory is that of the history of the quotes that 3 and 4 do not refuse, and the others are the invalid ones
     pub new-left : (recorded c qs 0 (fresh c)).answer ≡ Fine
-        → (recorded c qs 0 (fresh c)).left ≡ memoryOf (rule c) Nothing (zeros kinds (states c)) (filter (usable c) qs)
+        → (recorded c qs 0 (fresh c)).left ≡ memory_of (rule c) Nothing (zeros kinds (states c)) (filter (usable c) qs)
     new-left u = all.left_is u
 
     pub new-invalid : (recorded c qs 0 (fresh c)).answer ≡ Fine → (recorded c qs 0 (fresh c)).invalid ≡ count (unusable c) qs
     new-invalid u = all.invalid-is u ∙ zero-add (count (unusable c) qs)
 
     -- its counts are within their limits
-    pub new-within : overLimit (recorded c qs 0 (fresh c)).left.counts ≡ false
+    pub new-within : over_limit (recorded c qs 0 (fresh c)).left.counts ≡ false
     new-within = all.within

@@ -12,15 +12,15 @@ use lib.ListN.{length, take, drop}
 use borrow.Author.Tests.{eq-eqb, ne_eqb, le-leb, lt-leb, lt-ltb, le-ltb, not-false}
 use Rattle.basics.specs.Lists.{count, any}
 use Rattle.basics.proofs.Tests.{le-or-lt}
-use Rattle.refusals.specs.Refusals.{refuseIf, first_of}
+use Rattle.refusals.specs.Refusals.{refuse_if, first_of}
 use Rattle.refusals.proofs.Refusals.{if-fine, first_fine}
 use Rattle.refusals.specs.declared.Check.{Check}
 use Rattle.refusals.specs.declared.Check.TheVariants as Check
 use Rattle.refusals.specs.declared.Refusal.{Refusal}
 use Rattle.quotes.specs.declared.TopOfBook.{TopOfBook}
 use Rattle.calibrator.specs.Observe.{refuses}
-use Rattle.recording.specs.Recording.{quotesOf, uneven, sorted_from, sorted, filter}
-use Rattle.recording.specs.Window.{inside, before, backward, checkWindow, endsOf, windowUnless, windowOf, partEnds, part_of}
+use Rattle.recording.specs.Recording.{quotes_of, uneven, sorted_from, sorted, filter}
+use Rattle.recording.specs.Window.{inside, before, backward, check_window, ends_of, window_unless, window_of, part_ends, part_of}
 use Rattle.recording.specs.declared.Ends.{Ends}
 use Rattle.recording.specs.declared.Window.{Window}
 use Rattle.recording.proofs.Recordings.{sorted-known, sorted_filter, part_length, part-even, part-quotes}
@@ -55,7 +55,7 @@ module _ (start end : ℕ) where
 
   -- the part's quotes are the quotes inside
   pub window-inside : (qs : List TopOfBook) → sorted qs ≡ true
-      → take ((endsOf start end qs).past - (endsOf start end qs).first) (drop (endsOf start end qs).first qs) ≡ filter (inside start end) qs
+      → take ((ends_of start end qs).past - (ends_of start end qs).first) (drop (ends_of start end qs).first qs) ≡ filter (inside start end) qs
   window-inside qs e =
       ap (λ (n : ℕ). take n (drop (count (before start) qs) qs))
       (let z : count (before start) qs + count (inside start end) qs - count (before start) qs ≡ count (inside start end) qs = omega arith in z)
@@ -71,60 +71,60 @@ none-counted n = go (le-or-lt n 0)
 module _ (w : List ℕ) (start end : ℕ) where
   -- the words that quotes_in hands out
   abbrev pub handed : List ℕ
-  handed = part_of (partEnds (windowOf w start end)).first (partEnds (windowOf w start end)).past w
+  handed = part_of (part_ends (window_of w start end)).first (part_ends (window_of w start end)).past w
 
   -- as code has its part
-  pub handed-known : (found : Window) (e : Ends) (part : List ℕ) → found ≡ windowOf w start end → e ≡ partEnds found → part ≡ part_of e.first e.past w
+  pub handed-known : (found : Window) (e : Ends) (part : List ℕ) → found ≡ window_of w start end → e ≡ part_ends found → part ≡ part_of e.first e.past w
       → part ≡ handed
-  handed-known found e part f h p = p ∙ ap (λ (x : Ends). part_of x.first x.past w) (h ∙ ap partEnds f)
+  handed-known found e part f h p = p ∙ ap (λ (x : Ends). part_of x.first x.past w) (h ∙ ap part_ends f)
 
   -- whole quotes
   pub handed-even : uneven handed ≡ false
   handed-even =
-      part-even w (partEnds (windowOf w start end)).first (partEnds (windowOf w start end)).past (ends-lie w start end).0 (ends-lie w start end).1
+      part-even w (part_ends (window_of w start end)).first (part_ends (window_of w start end)).past (ends-lie w start end).0 (ends-lie w start end).1
 
   -- where nothing is refused, the ends are those of the quotes inside, and the times are in order
-  ends-are : checkWindow w start end ≡ Check.Fine → partEnds (windowOf w start end) ≡ endsOf start end (quotesOf w)
-  ends-are f = ap (λ (k : Check). partEnds (windowUnless k (endsOf start end (quotesOf w)))) f
+  ends-are : check_window w start end ≡ Check.Fine → part_ends (window_of w start end) ≡ ends_of start end (quotes_of w)
+  ends-are f = ap (λ (k : Check). part_ends (window_unless k (ends_of start end (quotes_of w)))) f
 
-  fine-sorted : checkWindow w start end ≡ Check.Fine → sorted (quotesOf w) ≡ true
+  fine-sorted : check_window w start end ≡ Check.Fine → sorted (quotes_of w) ≡ true
   fine-sorted f =
-      let a = first_fine (refuseIf (uneven w) 7) (first_of (refuseIf (not (sorted (quotesOf w))) 14) (refuseIf (backward start end (quotesOf w)) 15)) f in
-      let b = first_fine (refuseIf (not (sorted (quotesOf w))) 14) (refuseIf (backward start end (quotesOf w)) 15) a.1 in
-      not-false (sorted (quotesOf w)) (if-fine (not (sorted (quotesOf w))) 14 refl b.0)
+      let a = first_fine (refuse_if (uneven w) 7) (first_of (refuse_if (not (sorted (quotes_of w))) 14) (refuse_if (backward start end (quotes_of w)) 15)) f in
+      let b = first_fine (refuse_if (not (sorted (quotes_of w))) 14) (refuse_if (backward start end (quotes_of w)) 15) a.1 in
+      not-false (sorted (quotes_of w)) (if-fine (not (sorted (quotes_of w))) 14 refl b.0)
 
-  pub handed-quotes : checkWindow w start end ≡ Check.Fine → quotesOf handed ≡ filter (inside start end) (quotesOf w)
+  pub handed-quotes : check_window w start end ≡ Check.Fine → quotes_of handed ≡ filter (inside start end) (quotes_of w)
   handed-quotes f =
-      part-quotes w (partEnds (windowOf w start end)).first (partEnds (windowOf w start end)).past (ends-lie w start end).0 (ends-lie w start end).1
-      ∙ ap (λ (x : Ends). take (x.past - x.first) (drop x.first (quotesOf w))) (ends-are f)
-      ∙ window-inside start end (quotesOf w) (fine-sorted f)
+      part-quotes w (part_ends (window_of w start end)).first (part_ends (window_of w start end)).past (ends-lie w start end).0 (ends-lie w start end).1
+      ∙ ap (λ (x : Ends). take (x.past - x.first) (drop x.first (quotes_of w))) (ends-are f)
+      ∙ window-inside start end (quotes_of w) (fine-sorted f)
 
   -- a refusal hands out nothing
-  pub handed-none : (r : Refusal) → checkWindow w start end ≡ Check.Refused r → handed ≡ []
+  pub handed-none : (r : Refusal) → check_window w start end ≡ Check.Refused r → handed ≡ []
   handed-none r f =
-      ap (λ (k : Check). let x = partEnds (windowUnless k (endsOf start end (quotesOf w))) in part_of x.first x.past w) f
+      ap (λ (k : Check). let x = part_ends (window_unless k (ends_of start end (quotes_of w))) in part_of x.first x.past w) f
 
-  pub handed-sorted : sorted (quotesOf handed) ≡ true
-  handed-sorted = go (checkWindow w start end) refl
+  pub handed-sorted : sorted (quotes_of handed) ≡ true
+  handed-sorted = go (check_window w start end) refl
     where
-      go : (k : Check) → checkWindow w start end ≡ k → sorted (quotesOf handed) ≡ true
+      go : (k : Check) → check_window w start end ≡ k → sorted (quotes_of handed) ≡ true
       go Check.Fine f =
-          ap sorted (handed-quotes f) ∙ sorted_filter (inside start end) 0 (quotesOf w) (fine-sorted f)
-      go (Check.Refused r) f = ap (λ (l : List ℕ). sorted (quotesOf l)) (handed-none r f)
+          ap sorted (handed-quotes f) ∙ sorted_filter (inside start end) 0 (quotes_of w) (fine-sorted f)
+      go (Check.Refused r) f = ap (λ (l : List ℕ). sorted (quotes_of l)) (handed-none r f)
 
-  handed-length : checkWindow w start end ≡ Check.Fine → length handed ≡ 5 * count (inside start end) (quotesOf w)
+  handed-length : check_window w start end ≡ Check.Fine → length handed ≡ 5 * count (inside start end) (quotes_of w)
   handed-length f =
-      part_length w (partEnds (windowOf w start end)).first (partEnds (windowOf w start end)).past (ends-lie w start end).0 (ends-lie w start end).1
+      part_length w (part_ends (window_of w start end)).first (part_ends (window_of w start end)).past (ends-lie w start end).0 (ends-lie w start end).1
       ∙ ap (λ (x : Ends). 5 * (x.past - x.first)) (ends-are f)
-      ∙ (let z : 5 * (count (before start) (quotesOf w) + count (inside start end) (quotesOf w) - count (before start) (quotesOf w)) ≡ 5 * count
-      (inside start end) (quotesOf w) = omega arith in z)
+      ∙ (let z : 5 * (count (before start) (quotes_of w) + count (inside start end) (quotes_of w) - count (before start) (quotes_of w)) ≡ 5 * count
+      (inside start end) (quotes_of w) = omega arith in z)
 
   -- empty exactly if the window is refused or holds no quote
-  pub handed-empty : eqb (length handed) 0 ≡ (refuses (checkWindow w start end) || not (any (inside start end) (quotesOf w)))
-  handed-empty = go (checkWindow w start end) refl
+  pub handed-empty : eqb (length handed) 0 ≡ (refuses (check_window w start end) || not (any (inside start end) (quotes_of w)))
+  handed-empty = go (check_window w start end) refl
     where
-      go : (k : Check) → checkWindow w start end ≡ k → eqb (length handed) 0 ≡ (refuses k || not (any (inside start end) (quotesOf w)))
+      go : (k : Check) → check_window w start end ≡ k → eqb (length handed) 0 ≡ (refuses k || not (any (inside start end) (quotes_of w)))
       go (Check.Refused r) f = ap (λ (l : List ℕ). eqb (length l) 0) (handed-none r f)
       go Check.Fine f =
-          ap (λ (n : ℕ). eqb n 0) (handed-length f) ∙ none-counted (count (inside start end) (quotesOf w))
-          ∙ sym (ap not (any-count (inside start end) (quotesOf w)))
+          ap (λ (n : ℕ). eqb n 0) (handed-length f) ∙ none-counted (count (inside start end) (quotes_of w))
+          ∙ sym (ap not (any-count (inside start end) (quotes_of w)))

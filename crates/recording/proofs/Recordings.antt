@@ -10,37 +10,37 @@ use lib.Dec.{leb}
 use lib.ListN.{length, get_or, take, drop, length-drop, drop_of_length-le}
 use lib.Seq.{drop-cons, get_or-take, get_or-drop, length-take-le, ext_get_or}
 use borrow.Author.Tests.{le-leb, lt-leb, leb-true, eq-eqb}
-use Rattle.basics.proofs.Lists.{length-tab, getD-tab}
+use Rattle.basics.proofs.Lists.{length-tab, get_d-tab}
 use Rattle.basics.proofs.Tests.{both}
 use Rattle.quotes.specs.declared.TopOfBook.{TopOfBook}
-use Rattle.recording.specs.Recording.{timeAt, quoteAt, quotesOf, uneven, sorted_from, filter}
+use Rattle.recording.specs.Recording.{time_at, quote_at, quotes_of, uneven, sorted_from, filter}
 use Rattle.recording.specs.Window.{part_of}
 
 module _ (w : List ℕ) where
-  pub quotes-length : length (quotesOf w) ≡ length w / 5
-  quotes-length = length-tab (length w / 5) (quoteAt w)
+  pub quotes-length : length (quotes_of w) ≡ length w / 5
+  quotes-length = length-tab (length w / 5) (quote_at w)
 
-  pub quotes-at : (i : ℕ) (d : TopOfBook) → i < length w / 5 → get_or (quotesOf w) i d ≡ quoteAt w i
-  quotes-at i d h = getD-tab (length w / 5) (quoteAt w) i d h
+  pub quotes-at : (i : ℕ) (d : TopOfBook) → i < length w / 5 → get_or (quotes_of w) i d ≡ quote_at w i
+  quotes-at i d h = get_d-tab (length w / 5) (quote_at w) i d h
 
   -- from quote i on
-  pub quotes-step : (i : ℕ) → i < length w / 5 → drop i (quotesOf w) ≡ quoteAt w i ∷ drop (i + 1) (quotesOf w)
+  pub quotes-step : (i : ℕ) → i < length w / 5 → drop i (quotes_of w) ≡ quote_at w i ∷ drop (i + 1) (quotes_of w)
   quotes-step i h =
-      drop-cons (quotesOf w) i (quoteAt w i) (rw quotes-length h)
-      ∙ (λ t. quotes-at i (quoteAt w i) h t ∷ drop (sym (add-one i) t) (quotesOf w))
+      drop-cons (quotes_of w) i (quote_at w i) (rw quotes-length h)
+      ∙ (λ t. quotes-at i (quote_at w i) h t ∷ drop (sym (add-one i) t) (quotes_of w))
 
-  pub quotes-end : (i : ℕ) → length w / 5 ≤ i → drop i (quotesOf w) ≡ []
-  quotes-end i h = drop_of_length-le (quotesOf w) {i = i} (rw quotes-length h)
+  pub quotes-end : (i : ℕ) → length w / 5 ≤ i → drop i (quotes_of w) ≡ []
+  quotes-end i h = drop_of_length-le (quotes_of w) {i = i} (rw quotes-length h)
 
   -- ---- in order
 
-  pub sorted-step : (t i : ℕ) → i < length w / 5 → t ≤ timeAt w i → sorted_from t (drop i (quotesOf w)) ≡ sorted_from (timeAt w i) (drop (i + 1) (quotesOf w))
-  sorted-step t i h l = rw (quotes-step i h, le-leb t (timeAt w i) l)
+  pub sorted-step : (t i : ℕ) → i < length w / 5 → t ≤ time_at w i → sorted_from t (drop i (quotes_of w)) ≡ sorted_from (time_at w i) (drop (i + 1) (quotes_of w))
+  sorted-step t i h l = rw (quotes-step i h, le-leb t (time_at w i) l)
 
-  pub sorted-stop : (t i : ℕ) → i < length w / 5 → timeAt w i < t → sorted_from t (drop i (quotesOf w)) ≡ false
-  sorted-stop t i h l = rw (quotes-step i h, lt-leb t (timeAt w i) l)
+  pub sorted-stop : (t i : ℕ) → i < length w / 5 → time_at w i < t → sorted_from t (drop i (quotes_of w)) ≡ false
+  sorted-stop t i h l = rw (quotes-step i h, lt-leb t (time_at w i) l)
 
-  pub sorted-end : (t i : ℕ) → length w / 5 ≤ i → sorted_from t (drop i (quotesOf w)) ≡ true
+  pub sorted-end : (t i : ℕ) → length w / 5 ≤ i → sorted_from t (drop i (quotes_of w)) ≡ true
   sorted-end t i h = rw (quotes-end i h)
 
 -- what is known of times in order
@@ -95,13 +95,13 @@ module _ (w : List ℕ) (a e : ℕ) (from : a ≤ e) (to : e ≤ length w / 5) w
       ∙ get_or-drop (5 * a) w (5 * i + f) 0
       ∙ ap (λ (n : ℕ). get_or w n 0) (let z : 5 * a + (5 * i + f) ≡ 5 * (a + i) + f = omega arith in z)
 
-  part-time : (i : ℕ) → i < e - a → timeAt (part_of a e w) i ≡ timeAt w (a + i)
+  part-time : (i : ℕ) → i < e - a → time_at (part_of a e w) i ≡ time_at w (a + i)
   part-time i h =
       get_or-take (5 * e - 5 * a) (drop (5 * a) w) (5 * i) 0 (omega arith)
       ∙ get_or-drop (5 * a) w (5 * i) 0
       ∙ ap (λ (n : ℕ). get_or w n 0) (let z : 5 * a + 5 * i ≡ 5 * (a + i) = omega arith in z)
 
-  part-quote : (i : ℕ) → i < e - a → quoteAt (part_of a e w) i ≡ quoteAt w (a + i)
+  part-quote : (i : ℕ) → i < e - a → quote_at (part_of a e w) i ≡ quote_at w (a + i)
   part-quote i h =
       λ t.
       record {
@@ -113,23 +113,23 @@ module _ (w : List ℕ) (a e : ℕ) (from : a ≤ e) (to : e ≤ length w / 5) w
       }
 
   -- the quotes of a part are those from a up to e
-  pub part-quotes : quotesOf (part_of a e w) ≡ take (e - a) (drop a (quotesOf w))
-  part-quotes = ext_get_or (quoteAt w 0) (quotesOf (part_of a e w)) (take (e - a) (drop a (quotesOf w))) (long ∙ sym short) at
+  pub part-quotes : quotes_of (part_of a e w) ≡ take (e - a) (drop a (quotes_of w))
+  part-quotes = ext_get_or (quote_at w 0) (quotes_of (part_of a e w)) (take (e - a) (drop a (quotes_of w))) (long ∙ sym short) at
     where
-      long : length (quotesOf (part_of a e w)) ≡ e - a
+      long : length (quotes_of (part_of a e w)) ≡ e - a
       long = quotes-length (part_of a e w) ∙ (let l = part_length in let z : length (part_of a e w) / 5 ≡ e - a = omega arith in z)
 
-      short : length (take (e - a) (drop a (quotesOf w))) ≡ e - a
+      short : length (take (e - a) (drop a (quotes_of w))) ≡ e - a
       short =
-          length-take-le (e - a) (drop a (quotesOf w)) (rw (length-drop a (quotesOf w), quotes-length w) (omega arith))
+          length-take-le (e - a) (drop a (quotes_of w)) (rw (length-drop a (quotes_of w), quotes-length w) (omega arith))
 
-      at : (i : ℕ) → i < length (quotesOf (part_of a e w))
-          → get_or (quotesOf (part_of a e w)) i (quoteAt w 0) ≡ get_or (take (e - a) (drop a (quotesOf w))) i (quoteAt w 0)
+      at : (i : ℕ) → i < length (quotes_of (part_of a e w))
+          → get_or (quotes_of (part_of a e w)) i (quote_at w 0) ≡ get_or (take (e - a) (drop a (quotes_of w))) i (quote_at w 0)
       at i h =
           let b : i < e - a = omega (arith, long) in
           let l = part_length in
-          quotes-at (part_of a e w) i (quoteAt w 0) (omega arith)
+          quotes-at (part_of a e w) i (quote_at w 0) (omega arith)
           ∙ part-quote i b
-          ∙ sym (quotes-at w (a + i) (quoteAt w 0) (omega arith))
-          ∙ sym (get_or-drop a (quotesOf w) i (quoteAt w 0))
-          ∙ sym (get_or-take (e - a) (drop a (quotesOf w)) i (quoteAt w 0) b)
+          ∙ sym (quotes-at w (a + i) (quote_at w 0) (omega arith))
+          ∙ sym (get_or-drop a (quotes_of w) i (quote_at w 0))
+          ∙ sym (get_or-take (e - a) (drop a (quotes_of w)) i (quote_at w 0) b)

@@ -17,9 +17,9 @@ use Rattle.tally.specs.Rules.{Memory}
 use Rattle.calibrator.specs.Record.{Outcome}
 use Rattle.calibrator.specs.Observe.{observed}
 use Rattle.calibrator.specs.declared.Previous.{Previous}
-use Rattle.recording.specs.Recording.{quoteAt, quotesOf}
-use Rattle.recording.specs.Observe.{isInvalid, isStop, RecordedOutcome, recordedAs, recordedBy, recorded}
-use Rattle.recording.specs.Inner.{recordedOf}
+use Rattle.recording.specs.Recording.{quote_at, quotes_of}
+use Rattle.recording.specs.Observe.{is_invalid, is_stop, RecordedOutcome, recorded_as, recorded_by, recorded}
+use Rattle.recording.specs.Inner.{recorded_of}
 use Rattle.recording.proofs.Recordings.{quotes-step, quotes-end}
 use Rattle.recording.proofs.Windows.{bit-most}
 
@@ -28,17 +28,17 @@ byte-bit true = refl
 byte-bit false = refl
 
 -- a quote adds at most one
-pub one-most : (k : Check) (n : ℕ) → n ≡ bit (isInvalid k) → n ≤ 1
-one-most k n e = omega (arith, bit-most (isInvalid k))
+pub one-most : (k : Check) (n : ℕ) → n ≡ bit (is_invalid k) → n ≤ 1
+one-most k n e = omega (arith, bit-most (is_invalid k))
 
 -- one quote of a list
 module _ {Last Quote : Type 0} (f : Memory Last → Quote → Outcome Last) (q : Quote) (qs : List Quote) (k : ℕ) (m : Memory Last) (o : Outcome Last)
     (e : o ≡ f m q) where
   -- that does not stop it
-  pub goes_on : isStop o.answer ≡ false → recordedBy f (q ∷ qs) k m ≡ recordedBy f qs (k + bit (isInvalid o.answer)) o.left
+  pub goes_on : is_stop o.answer ≡ false → recorded_by f (q ∷ qs) k m ≡ recorded_by f qs (k + bit (is_invalid o.answer)) o.left
   goes_on s = rw (← e, s)
 
-  pub stops_at : isStop o.answer ≡ true → recordedBy f (q ∷ qs) k m ≡ recordedAs o.answer k o.left
+  pub stops_at : is_stop o.answer ≡ true → recorded_by f (q ∷ qs) k m ≡ recorded_as o.answer k o.left
   stops_at s = rw (← e, s)
 
 -- ---- the loop over a recording's quotes
@@ -50,49 +50,49 @@ pub record Observing (c : MicroPriceConfig) (w : List ℕ) (m₀ m : Memory Prev
   pub moved-long : length m.counts.tables.moved ≡ length m₀.counts.tables.moved
   pub totals-long : length m.counts.tables.totals ≡ length m₀.counts.tables.totals
   pub few : k ≤ i
-  pub same : recorded c (quotesOf w) 0 m₀ ≡ recorded c (drop i (quotesOf w)) k m
+  pub same : recorded c (quotes_of w) 0 m₀ ≡ recorded c (drop i (quotes_of w)) k m
 
 module _ (c : MicroPriceConfig) (w : List ℕ) (m₀ : Memory Previous) where
   -- words that are no multiple of five
-  pub observing-uneven : (length w % 5 ≡ 0 → ⊥) → recordedAs (refusal 7) 0 m₀ ≡ recordedOf c w m₀
+  pub observing-uneven : (length w % 5 ≡ 0 → ⊥) → recorded_as (refusal 7) 0 m₀ ≡ recorded_of c w m₀
   observing-uneven h = rw (ne_eqb (length w % 5) 0 h)
 
   pub observing-start : Observing c w m₀ m₀ 0 0
   observing-start = record { stay-long = refl; moved-long = refl; totals-long = refl; few = omega arith; same = refl }
 
 -- from quote i on
-from-here : (c : MicroPriceConfig) (w : List ℕ) (m : Memory Previous) (k i : ℕ) (q : TopOfBook) → i < length w / 5 → q ≡ quoteAt w i
-    → recorded c (drop i (quotesOf w)) k m ≡ recorded c (q ∷ drop (i + 1) (quotesOf w)) k m
+from-here : (c : MicroPriceConfig) (w : List ℕ) (m : Memory Previous) (k i : ℕ) (q : TopOfBook) → i < length w / 5 → q ≡ quote_at w i
+    → recorded c (drop i (quotes_of w)) k m ≡ recorded c (q ∷ drop (i + 1) (quotes_of w)) k m
 from-here c w m k i q here quoted =
-    ap (λ (l : List TopOfBook). recorded c l k m) (quotes-step w i here ∙ ap (λ (p : TopOfBook). p ∷ drop (i + 1) (quotesOf w)) (sym quoted))
+    ap (λ (l : List TopOfBook). recorded c l k m) (quotes-step w i here ∙ ap (λ (p : TopOfBook). p ∷ drop (i + 1) (quotes_of w)) (sym quoted))
 
 -- the ways out of the loop, in a recording of whole quotes
 module _ {c : MicroPriceConfig} {w : List ℕ} {m₀ m : Memory Previous} {k i : ℕ} (even : length w % 5 ≡ 0) (runs : Observing c w m₀ m k i) where
-  whole : (r : RecordedOutcome Previous) → recorded c (drop i (quotesOf w)) k m ≡ r → r ≡ recordedOf c w m₀
+  whole : (r : RecordedOutcome Previous) → recorded c (drop i (quotes_of w)) k m ≡ r → r ≡ recorded_of c w m₀
   whole r e = rw (eq-eqb (length w % 5) 0 even) (sym (runs.same ∙ e))
 
   -- the quotes are used up
-  pub observing-end : length w / 5 ≤ i → recordedAs Fine k m ≡ recordedOf c w m₀
-  observing-end past = whole (recordedAs Fine k m) (rw (quotes-end w i past))
+  pub observing-end : length w / 5 ≤ i → recorded_as Fine k m ≡ recorded_of c w m₀
+  observing-end past = whole (recorded_as Fine k m) (rw (quotes-end w i past))
 
   -- quote i stops it
-  pub observing-stop : i < length w / 5 → {q : TopOfBook} → q ≡ quoteAt w i → {o : Outcome Previous} → o ≡ observed c m q → {b : Bool} → b ≡ isStop o.answer
-      → b ≡ true → recordedAs o.answer k o.left ≡ recordedOf c w m₀
+  pub observing-stop : i < length w / 5 → {q : TopOfBook} → q ≡ quote_at w i → {o : Outcome Previous} → o ≡ observed c m q → {b : Bool} → b ≡ is_stop o.answer
+      → b ≡ true → recorded_as o.answer k o.left ≡ recorded_of c w m₀
   observing-stop here {q} quoted {o} done {b} judged stops =
-      whole (recordedAs o.answer k o.left)
-      (from-here c w m k i q here quoted ∙ stops_at (observed c) q (drop (i + 1) (quotesOf w)) k m o done (sym judged ∙ stops))
+      whole (recorded_as o.answer k o.left)
+      (from-here c w m k i q here quoted ∙ stops_at (observed c) q (drop (i + 1) (quotes_of w)) k m o done (sym judged ∙ stops))
 
 -- quote i does not stop it
 module _ {c : MicroPriceConfig} {w : List ℕ} {m₀ m : Memory Previous} {k i : ℕ} (runs : Observing c w m₀ m k i) (here : i < length w / 5) where
   -- the invalid quotes are at most as many as the quotes
-  pub observing-few : (a : Check) {n : ℕ} → n ≡ bit (isInvalid a) → k + n ≤ length w / 5
+  pub observing-few : (a : Check) {n : ℕ} → n ≡ bit (is_invalid a) → k + n ≤ length w / 5
   observing-few a {n} counted = omega (arith, one-most a n counted, runs.few)
 
-  pub observing-on : {q : TopOfBook} → q ≡ quoteAt w i → {o : Outcome Previous} → o ≡ observed c m q
+  pub observing-on : {q : TopOfBook} → q ≡ quote_at w i → {o : Outcome Previous} → o ≡ observed c m q
       → length o.left.counts.tables.stay ≡ length m.counts.tables.stay
       → length o.left.counts.tables.moved ≡ length m.counts.tables.moved
       → length o.left.counts.tables.totals ≡ length m.counts.tables.totals
-      → {b : Bool} → b ≡ isStop o.answer → b ≡ false → {n : ℕ} → n ≡ bit (isInvalid o.answer) → Observing c w m₀ o.left (k + n) (i + 1)
+      → {b : Bool} → b ≡ is_stop o.answer → b ≡ false → {n : ℕ} → n ≡ bit (is_invalid o.answer) → Observing c w m₀ o.left (k + n) (i + 1)
   observing-on {q} quoted {o} done stay moved totals {b} judged goes {n} counted =
       record {
         stay-long = stay ∙ runs.stay-long;
@@ -102,5 +102,5 @@ module _ {c : MicroPriceConfig} {w : List ℕ} {m₀ m : Memory Previous} {k i :
         same =
             runs.same
             ∙ from-here c w m k i q here quoted
-            ∙ rw counted (goes_on (observed c) q (drop (i + 1) (quotesOf w)) k m o done (sym judged ∙ goes));
+            ∙ rw counted (goes_on (observed c) q (drop (i + 1) (quotes_of w)) k m o done (sym judged ∙ goes));
       }

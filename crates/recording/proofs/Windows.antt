@@ -11,13 +11,13 @@ use lib.ListN.{length, get_or}
 use borrow.Author.Tests.{eq-eqb, ne_eqb, le-leb, lt-leb, lt-ltb, le-ltb, ltb-true}
 use Rattle.basics.specs.Lists.{bit, count, any}
 use Rattle.basics.proofs.Tests.{le-or-lt, same_test}
-use Rattle.refusals.specs.Refusals.{refuseIf, first_of}
+use Rattle.refusals.specs.Refusals.{refuse_if, first_of}
 use Rattle.refusals.specs.declared.Check.{Check}
 use Rattle.refusals.specs.declared.Check.TheVariants as Check
 use Rattle.refusals.specs.declared.Refusal.TheVariants.{SliceLength, RecordingUnsorted, WindowBackward}
 use Rattle.quotes.specs.declared.TopOfBook.{TopOfBook}
-use Rattle.recording.specs.Recording.{timeAt, quoteAt, quotesOf, sorted_from, sorted}
-use Rattle.recording.specs.Window.{inside, before, backward, checkWindow, endsOf, windowUnless, windowOf, partEnds}
+use Rattle.recording.specs.Recording.{time_at, quote_at, quotes_of, sorted_from, sorted}
+use Rattle.recording.specs.Window.{inside, before, backward, check_window, ends_of, window_unless, window_of, part_ends}
 use Rattle.recording.specs.declared.Ends.{Ends}
 use Rattle.recording.specs.declared.Window.{Window}
 use Rattle.recording.specs.declared.Window.TheVariants.{Part, Refused}
@@ -76,17 +76,17 @@ before-below t x (q ∷ qs) (suc i) d e h l =
     omega (arith, bit-most (before x q))
 
 -- by the time of quote i of a recording
-module _ (w : List ℕ) (x i : ℕ) (e : sorted (quotesOf w) ≡ true) (h : i < length w / 5) where
-  here : (get_or (quotesOf w) i (quoteAt w i)).timestamp_ms ≡ timeAt w i
-  here = ap (λ (q : TopOfBook). q.timestamp_ms) (quotes-at w i (quoteAt w i) h)
+module _ (w : List ℕ) (x i : ℕ) (e : sorted (quotes_of w) ≡ true) (h : i < length w / 5) where
+  here : (get_or (quotes_of w) i (quote_at w i)).timestamp_ms ≡ time_at w i
+  here = ap (λ (q : TopOfBook). q.timestamp_ms) (quotes-at w i (quote_at w i) h)
 
-  pub before-past : timeAt w i < x → i + 1 ≤ count (before x) (quotesOf w)
+  pub before-past : time_at w i < x → i + 1 ≤ count (before x) (quotes_of w)
   before-past l =
       omega
-      (arith, before_above 0 x (quotesOf w) i (quoteAt w i) e (rw (quotes-length w) h) (rw here l))
+      (arith, before_above 0 x (quotes_of w) i (quote_at w i) e (rw (quotes-length w) h) (rw here l))
 
-  pub before-most : x ≤ timeAt w i → count (before x) (quotesOf w) ≤ i
-  before-most l = before-below 0 x (quotesOf w) i (quoteAt w i) e (rw (quotes-length w) h) (rw here l)
+  pub before-most : x ≤ time_at w i → count (before x) (quotes_of w) ≤ i
+  before-most l = before-below 0 x (quotes_of w) i (quote_at w i) e (rw (quotes-length w) h) (rw here l)
 
 -- ---- the ends
 
@@ -136,48 +136,48 @@ module _ (start end : ℕ) (qs : List TopOfBook) where
       go (inr h) =
           omega (arith, none_inside start end (omega arith) qs, before_split end start (omega arith) qs)
 
-  ends-most : (endsOf start end qs).past ≤ length qs
+  ends-most : (ends_of start end qs).past ≤ length qs
   ends-most = go (le-or-lt start end)
     where
-      go : (start ≤ end) ⊎ (end < start) → (endsOf start end qs).past ≤ length qs
+      go : (start ≤ end) ⊎ (end < start) → (ends_of start end qs).past ≤ length qs
       go (inl h) = omega (arith, before_split start end h qs, count_most (before end) qs)
       go (inr h) = omega (arith, none_inside start end (omega arith) qs, count_most (before start) qs)
 
 -- ---- the window's answers
 
 module _ (w : List ℕ) (start end : ℕ) where
-  pub way-uneven : (length w % 5 ≡ 0 → ⊥) → Refused SliceLength ≡ windowOf w start end
+  pub way-uneven : (length w % 5 ≡ 0 → ⊥) → Refused SliceLength ≡ window_of w start end
   way-uneven h = rw (ne_eqb (length w % 5) 0 h)
 
   module _ (even : length w % 5 ≡ 0) where
-    pub way-unsorted : sorted (quotesOf w) ≡ false → Refused RecordingUnsorted ≡ windowOf w start end
+    pub way-unsorted : sorted (quotes_of w) ≡ false → Refused RecordingUnsorted ≡ window_of w start end
     way-unsorted e =
         rw (eq-eqb (length w % 5) 0 even)
-        (sym (ap (λ (s : Bool). windowUnless (first_of (refuseIf (not s) 14) (refuseIf (backward start end (quotesOf w)) 15)) (endsOf start end (quotesOf w)))
+        (sym (ap (λ (s : Bool). window_unless (first_of (refuse_if (not s) 14) (refuse_if (backward start end (quotes_of w)) 15)) (ends_of start end (quotes_of w)))
         e))
 
-    module _ (f p : ℕ) (e : sorted (quotesOf w) ≡ true) (ef : f ≡ count (before start) (quotesOf w)) (ep : p ≡ count (before end) (quotesOf w)) where
-      back : ltb p f ≡ backward start end (quotesOf w)
-      back = rw (ef, ep) (sym (backward-is start end (quotesOf w)))
+    module _ (f p : ℕ) (e : sorted (quotes_of w) ≡ true) (ef : f ≡ count (before start) (quotes_of w)) (ep : p ≡ count (before end) (quotes_of w)) where
+      back : ltb p f ≡ backward start end (quotes_of w)
+      back = rw (ef, ep) (sym (backward-is start end (quotes_of w)))
 
-      pub way-backward : p < f → Refused WindowBackward ≡ windowOf w start end
+      pub way-backward : p < f → Refused WindowBackward ≡ window_of w start end
       way-backward h = rw (eq-eqb (length w % 5) 0 even, e, ← back, lt-ltb p f h)
 
-      pub way-part : f ≤ p → Part (record { first = f; past = p }) ≡ windowOf w start end
+      pub way-part : f ≤ p → Part (record { first = f; past = p }) ≡ window_of w start end
       way-part h =
           rw (eq-eqb (length w % 5) 0 even, e, ← back, le-ltb p f h)
-          (λ t. Part (record { first = ef t; past = (ep ∙ sym (past_is start end (quotesOf w) (rw (← ef, ← ep) h))) t }))
+          (λ t. Part (record { first = ef t; past = (ep ∙ sym (past_is start end (quotes_of w) (rw (← ef, ← ep) h))) t }))
 
   -- the part lies in the recording
-  pub ends-lie : ((partEnds (windowOf w start end)).first ≤ (partEnds (windowOf w start end)).past) × ((partEnds (windowOf w start end)).past ≤ length w / 5)
-  ends-lie = go (checkWindow w start end)
+  pub ends-lie : ((part_ends (window_of w start end)).first ≤ (part_ends (window_of w start end)).past) × ((part_ends (window_of w start end)).past ≤ length w / 5)
+  ends-lie = go (check_window w start end)
     where
       go : (k : Check)
-          → ((partEnds (windowUnless k (endsOf start end (quotesOf w)))).first ≤ (partEnds (windowUnless k (endsOf start end (quotesOf w)))).past)
-          × ((partEnds (windowUnless k (endsOf start end (quotesOf w)))).past ≤ length w / 5)
-      go Check.Fine = (omega arith, omega (arith, ends-most start end (quotesOf w), quotes-length w))
+          → ((part_ends (window_unless k (ends_of start end (quotes_of w)))).first ≤ (part_ends (window_unless k (ends_of start end (quotes_of w)))).past)
+          × ((part_ends (window_unless k (ends_of start end (quotes_of w)))).past ≤ length w / 5)
+      go Check.Fine = (omega arith, omega (arith, ends-most start end (quotes_of w), quotes-length w))
       go (Check.Refused r) = (omega arith, omega arith)
 
   -- as code has its ends
-  pub ends-known : (found : Window) (e : Ends) → found ≡ windowOf w start end → e ≡ partEnds found → (e.first ≤ e.past) × (e.past ≤ length w / 5)
+  pub ends-known : (found : Window) (e : Ends) → found ≡ window_of w start end → e ≡ part_ends found → (e.first ≤ e.past) × (e.past ≤ length w / 5)
   ends-known found e f h = rw (h, f) ends-lie

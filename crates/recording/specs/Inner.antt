@@ -4,9 +4,9 @@ use Rattle.refusals.specs.Refusals.{refusal}
 use Rattle.config.specs.declared.MicroPriceConfig.{MicroPriceConfig}
 use Rattle.tally.specs.Rules.{Memory}
 use Rattle.calibrator.specs.declared.Previous.{Previous}
-use Rattle.recording.specs.Recording.{quotesOf, uneven}
-use Rattle.recording.specs.Observe.{RecordedOutcome, recordedAs, recorded}
+use Rattle.recording.specs.Recording.{quotes_of, uneven}
+use Rattle.recording.specs.Observe.{RecordedOutcome, recorded_as, recorded}
 
 -- 7 first, for a recording that is not a multiple of five words
-abbrev pub recordedOf : MicroPriceConfig → List ℕ → Memory Previous → RecordedOutcome Previous
-recordedOf c w m = cond (uneven w) (recordedAs (refusal 7) 0 m) (recorded c (quotesOf w) 0 m)
+abbrev pub recorded_of : MicroPriceConfig → List ℕ → Memory Previous → RecordedOutcome Previous
+recorded_of c w m = cond (uneven w) (recorded_as (refusal 7) 0 m) (recorded c (quotes_of w) 0 m)

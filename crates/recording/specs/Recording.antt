@@ -4,22 +4,22 @@ use Rattle.basics.specs.Lists.{tab}
 use Rattle.quotes.specs.declared.TopOfBook.{TopOfBook}
 
 -- the time of quote i
-abbrev pub timeAt : List ℕ → ℕ → ℕ
-timeAt w i = get_or w (5 * i) 0
+abbrev pub time_at : List ℕ → ℕ → ℕ
+time_at w i = get_or w (5 * i) 0
 
 -- a quote is five words: time, bid, ask, bid size, ask size
-abbrev pub quoteAt : List ℕ → ℕ → TopOfBook
-quoteAt w i =
+abbrev pub quote_at : List ℕ → ℕ → TopOfBook
+quote_at w i =
     record {
-      timestamp_ms = timeAt w i;
+      timestamp_ms = time_at w i;
       bid = get_or w (5 * i + 1) 0;
       ask = get_or w (5 * i + 2) 0;
       bid_size = get_or w (5 * i + 3) 0;
       ask_size = get_or w (5 * i + 4) 0;
     }
 
-abbrev pub quotesOf : List ℕ → List TopOfBook
-quotesOf w = tab (length w / 5) (quoteAt w)
+abbrev pub quotes_of : List ℕ → List TopOfBook
+quotes_of w = tab (length w / 5) (quote_at w)
 
 -- not a multiple of five words
 abbrev pub uneven : List ℕ → Bool

@@ -2,11 +2,11 @@
 use Rattle.std.specs.Prelude.{ℕ, ◌+◌, ◌*◌, ◌-◌, ◌≡◌, Bool, not, ◌&&◌, List, leb, ltb, take, drop}
 use Rattle.std.specs.Borrow.{Bor}
 use Rattle.basics.specs.Lists.{count, any}
-use Rattle.refusals.specs.Refusals.{refuseIf, first_of}
+use Rattle.refusals.specs.Refusals.{refuse_if, first_of}
 use Rattle.refusals.specs.declared.Check.{Check}
 use Rattle.refusals.specs.declared.Check.TheVariants as Check
 use Rattle.quotes.specs.declared.TopOfBook.{TopOfBook}
-use Rattle.recording.specs.Recording.{quotesOf, uneven, sorted}
+use Rattle.recording.specs.Recording.{quotes_of, uneven, sorted}
 use Rattle.recording.specs.declared.Ends.{Ends}
 use Rattle.recording.specs.declared.Window.{Window}
 use Rattle.recording.specs.declared.Window.TheVariants.{Part, Refused}
@@ -23,32 +23,32 @@ abbrev pub backward : ℕ → ℕ → List TopOfBook → Bool
 backward start end qs = ltb end start && any (inside end start) qs
 
 -- 7, 14, 15
-abbrev pub checkWindow : List ℕ → ℕ → ℕ → Check
-checkWindow w start end =
-    first_of (refuseIf (uneven w) 7)
-    (first_of (refuseIf (not (sorted (quotesOf w))) 14) (refuseIf (backward start end (quotesOf w)) 15))
+abbrev pub check_window : List ℕ → ℕ → ℕ → Check
+check_window w start end =
+    first_of (refuse_if (uneven w) 7)
+    (first_of (refuse_if (not (sorted (quotes_of w))) 14) (refuse_if (backward start end (quotes_of w)) 15))
 
 -- the part begins after the quotes before start, and has as many quotes as are inside; they are those, by the law window-inside
-abbrev pub endsOf : ℕ → ℕ → List TopOfBook → Ends
-endsOf start end qs =
+abbrev pub ends_of : ℕ → ℕ → List TopOfBook → Ends
+ends_of start end qs =
     record {
       first = count (before start) qs;
       past = count (before start) qs + count (inside start end) qs;
     }
 
-abbrev pub windowUnless : Check → Ends → Window
-windowUnless Check.Fine e = Part e
-windowUnless (Check.Refused r) e = Refused r
+abbrev pub window_unless : Check → Ends → Window
+window_unless Check.Fine e = Part e
+window_unless (Check.Refused r) e = Refused r
 
-abbrev pub windowOf : List ℕ → ℕ → ℕ → Window
-windowOf w start end = windowUnless (checkWindow w start end) (endsOf start end (quotesOf w))
+abbrev pub window_of : List ℕ → ℕ → ℕ → Window
+window_of w start end = window_unless (check_window w start end) (ends_of start end (quotes_of w))
 
 -- ---- the part itself
 
 -- the ends of the part that is handed out: none for a refusal
-abbrev pub partEnds : Window → Ends
-partEnds (Part e) = e
-partEnds (Refused r) = record { first = 0; past = 0 }
+abbrev pub part_ends : Window → Ends
+part_ends (Part e) = e
+part_ends (Refused r) = record { first = 0; past = 0 }
 
 -- the words of the quotes from a up to, not including, e
 abbrev pub part_of : ℕ → ℕ → List ℕ → List ℕ

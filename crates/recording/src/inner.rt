@@ -3,10 +3,10 @@ ghost use Rattle.std.specs.Prelude.{◌≡◌, true, ◌+◌, ◌*◌, ◌/◌, 
 ghost use Rattle.basics.specs.Loan.{given};
 ghost use Rattle.basics.specs.Lists.{bit, count};
 ghost use Rattle.calibrator.specs.Record.{came, remains};
-ghost use Rattle.recording.specs.Recording.{quoteAt, quotesOf, sorted};
-ghost use Rattle.recording.specs.Window.{before, partEnds, PartIn};
-ghost use Rattle.recording.specs.Observe.{isInvalid, isStop, recordedAs};
-ghost use Rattle.recording.specs.Inner.{recordedOf};
+ghost use Rattle.recording.specs.Recording.{quote_at, quotes_of, sorted};
+ghost use Rattle.recording.specs.Window.{before, part_ends, PartIn};
+ghost use Rattle.recording.specs.Observe.{is_invalid, is_stop, recorded_as};
+ghost use Rattle.recording.specs.Inner.{recorded_of};
 
 use super::{Ends, Recorded, Window};
 use calibrator::Record;
@@ -18,7 +18,7 @@ use refusals::{Check, Refusal};
 
 pub fn quote_at(recording: &[u64], i: usize) -> TopOfBook
     requires { 5 * i + 5 ≤ length recording.now }
-    ensures { result ≡ quoteAt (given recording) i }
+    ensures { result ≡ quote_at (given recording) i }
 {
     let at = 5 * i;
     TopOfBook {
@@ -31,7 +31,7 @@ pub fn quote_at(recording: &[u64], i: usize) -> TopOfBook
 }
 
 pub fn is_sorted(recording: &[u64]) -> bool
-    ensures { result ≡ sorted (quotesOf (given recording)) }
+    ensures { result ≡ sorted (quotes_of (given recording)) }
 {
     let n = recording.len() / 5;
     let mut last = 0;
@@ -51,8 +51,8 @@ pub fn is_sorted(recording: &[u64]) -> bool
 
 // How many quotes of a sorted recording are before a time. The halving needs the order, which `window_of` has judged.
 pub fn quotes_before(recording: &[u64], time: u64) -> usize
-    requires { sorted (quotesOf recording.now) ≡ true }
-    ensures { result ≡ count (before time) (quotesOf (given recording)) }
+    requires { sorted (quotes_of recording.now) ≡ true }
+    ensures { result ≡ count (before time) (quotes_of (given recording)) }
 {
     let mut low = 0;
     let mut high = recording.len() / 5;
@@ -68,7 +68,7 @@ pub fn quotes_before(recording: &[u64], time: u64) -> usize
 }
 
 pub fn part_ends(found: Window) -> Ends
-    ensures { result ≡ partEnds found }
+    ensures { result ≡ part_ends found }
 {
     match found {
         Window::Part(ends) => ends,
@@ -90,7 +90,7 @@ pub fn part_of(recording: &[u64], ends: Ends) -> &[u64]
 
 // Any refusal but 3 and 4.
 fn is_stop(answer: Check) -> bool
-    ensures { result ≡ isStop answer }
+    ensures { result ≡ is_stop answer }
 {
     match answer {
         Check::Fine => false,
@@ -103,7 +103,7 @@ fn is_stop(answer: Check) -> bool
 
 // 1 for an invalid quote.
 fn invalid_in(answer: Check) -> u64
-    ensures { result ≡ bit (isInvalid answer) }
+    ensures { result ≡ bit (is_invalid answer) }
 {
     match answer {
         Check::Fine => 0,
@@ -123,7 +123,7 @@ pub fn observe_recording(
     config: MicroPriceConfig,
     recording: &[u64],
 ) -> Recorded
-    ensures { recordedAs result.answer result.invalid (remains result.next stay moved move_half_ticks) ≡ recordedOf config (given recording) (came rec stay moved move_half_ticks) }
+    ensures { recorded_as result.answer result.invalid (remains result.next stay moved move_half_ticks) ≡ recorded_of config (given recording) (came rec stay moved move_half_ticks) }
 {
     if recording.len() % 5 != 0 {
         return Recorded {

@@ -7,7 +7,7 @@ use lib.Dec.{eqb}
 use types.Run.{OneOf, miss}
 use denote.Enum.Declared.{tag_of}
 use Rattle.refusals.specs.contracts.Refusal.{the_type}
-use Rattle.refusals.specs.Refusals.{number_of, refusal, rowOr}
+use Rattle.refusals.specs.Refusals.{number_of, refusal, row_or}
 use Rattle.refusals.specs.declared.Check.TheVariants.{Refused}
 use Rattle.refusals.specs.declared.Refusal.{Refusal}
 use Rattle.refusals.specs.declared.Refusal.TheVariants.{Configuration, OverDomain, BadQuote, OffTick, EarlierTime, CountLimit, SliceLength, LastQuoteBroken, TotalsUnmirrored, CellsUnmirrored, CellsNotTwicePairs, ImageLayout, ModelRow, RecordingUnsorted, WindowBackward, NoCalibratedState, SingularTransitions, NotConverged, Unrepresentable}
@@ -18,10 +18,10 @@ others = 0 ∷ 1 ∷ 2 ∷ 3 ∷ 4 ∷ 5 ∷ 6 ∷ 7 ∷ 8 ∷ 9 ∷ 10 ∷ 11 �
 
 pub record Case (r : Refusal) : Type 0 where
   -- it is found by its number; of 13 the one at row 0 is
-  pub found : rowOr r 0 ≡ 0 → refusal (number_of r) ≡ Refused r
+  pub found : row_or r 0 ≡ 0 → refusal (number_of r) ≡ Refused r
   pub not-zero : eqb (number_of r) 0 ≡ false
   -- if it is not 13 it names no row
-  pub kept : (row : ℕ) → OneOf others (tag_of the_type r) → rowOr r row ≡ row
+  pub kept : (row : ℕ) → OneOf others (tag_of the_type r) → row_or r row ≡ row
 
 pub each-case : (r : Refusal) → Case r
 each-case Configuration = record { found = λ e. refl; not-zero = refl; kept = λ row h. refl }

@@ -4,7 +4,7 @@ use mathlib.Core.Bool.{false, true≢false}
 use mathlib.Core.List.{[], ◌∷◌, map}
 use lib.Dec.{eqb}
 use borrow.Author.Tests.{eq-eqb}
-use Rattle.refusals.specs.Refusals.{number_of, refusals, refusal, checkNumber, rowOr}
+use Rattle.refusals.specs.Refusals.{number_of, refusals, refusal, check_number, row_or}
 use Rattle.refusals.specs.declared.Check.{Check}
 use Rattle.refusals.specs.declared.Check.TheVariants.{Fine, Refused}
 use Rattle.refusals.specs.declared.Refusal.{Refusal}
@@ -15,7 +15,7 @@ pub refusals-numbered : map number_of refusals ≡ 1 ∷ 2 ∷ 3 ∷ 4 ∷ 5 ∷
 refusals-numbered = refl
 
 -- of 13 the one at row 0
-pub found-by-number : (r : Refusal) → rowOr r 0 ≡ 0 → refusal (number_of r) ≡ Refused r
+pub found-by-number : (r : Refusal) → row_or r 0 ≡ 0 → refusal (number_of r) ≡ Refused r
 found-by-number r = (each-case r).found
 
 pub none_found : map refusal (0 ∷ 20 ∷ 100 ∷ []) ≡ Fine ∷ Fine ∷ Fine ∷ []
@@ -25,6 +25,6 @@ pub number-not-zero : (r : Refusal) → eqb (number_of r) 0 ≡ false
 number-not-zero r = (each-case r).not-zero
 
 -- where the number is 0 nothing is refused
-pub zero-fine : (k : Check) → checkNumber k ≡ 0 → k ≡ Fine
+pub zero-fine : (k : Check) → check_number k ≡ 0 → k ≡ Fine
 zero-fine Fine e = refl
 zero-fine (Refused r) e = absurd (true≢false (sym (eq-eqb (number_of r) 0 e) ∙ number-not-zero r))

@@ -52,18 +52,18 @@ refusals =
     []
 
 -- the refusal of a list that has the number k
-abbrev pub refusedBy : List Refusal → ℕ → Check
-refusedBy [] k = Fine
-refusedBy (r ∷ rs) k = cond (eqb (number_of r) k) (Refused r) (refusedBy rs k)
+abbrev pub refused_by : List Refusal → ℕ → Check
+refused_by [] k = Fine
+refused_by (r ∷ rs) k = cond (eqb (number_of r) k) (Refused r) (refused_by rs k)
 
 -- refusal k; a number that no refusal has refuses nothing
 abbrev pub refusal : ℕ → Check
-refusal k = refusedBy refusals k
+refusal k = refused_by refusals k
 
 -- refusal k where the test holds
-abbrev pub refuseIf : Bool → ℕ → Check
-refuseIf true k = refusal k
-refuseIf false k = Fine
+abbrev pub refuse_if : Bool → ℕ → Check
+refuse_if true k = refusal k
+refuse_if false k = Fine
 
 -- the first refusal of two checks
 abbrev pub first_of : Check → Check → Check
@@ -71,33 +71,33 @@ first_of Fine check = check
 first_of (Refused r) check = Refused r
 
 -- the first refusal of the checks i, i + 1, .., k of them
-abbrev pub firstFrom : (ℕ → Check) → ℕ → ℕ → Check
-firstFrom f i zero = Fine
-firstFrom f i (suc k) = first_of (f i) (firstFrom f (suc i) k)
+abbrev pub first_from : (ℕ → Check) → ℕ → ℕ → Check
+first_from f i zero = Fine
+first_from f i (suc k) = first_of (f i) (first_from f (suc i) k)
 
 -- 0 if nothing is refused, else the refusal's number
-abbrev pub checkNumber : Check → ℕ
-checkNumber Fine = 0
-checkNumber (Refused r) = number_of r
+abbrev pub check_number : Check → ℕ
+check_number Fine = 0
+check_number (Refused r) = number_of r
 
 -- the row that 13 names; of any other refusal, the row given
-abbrev pub rowOr : Refusal → ℕ → ℕ
-rowOr Configuration row = row
-rowOr OverDomain row = row
-rowOr BadQuote row = row
-rowOr OffTick row = row
-rowOr EarlierTime row = row
-rowOr CountLimit row = row
-rowOr SliceLength row = row
-rowOr LastQuoteBroken row = row
-rowOr TotalsUnmirrored row = row
-rowOr CellsUnmirrored row = row
-rowOr CellsNotTwicePairs row = row
-rowOr ImageLayout row = row
-rowOr (ModelRow i) row = i
-rowOr RecordingUnsorted row = row
-rowOr WindowBackward row = row
-rowOr NoCalibratedState row = row
-rowOr SingularTransitions row = row
-rowOr NotConverged row = row
-rowOr Unrepresentable row = row
+abbrev pub row_or : Refusal → ℕ → ℕ
+row_or Configuration row = row
+row_or OverDomain row = row
+row_or BadQuote row = row
+row_or OffTick row = row
+row_or EarlierTime row = row
+row_or CountLimit row = row
+row_or SliceLength row = row
+row_or LastQuoteBroken row = row
+row_or TotalsUnmirrored row = row
+row_or CellsUnmirrored row = row
+row_or CellsNotTwicePairs row = row
+row_or ImageLayout row = row
+row_or (ModelRow i) row = i
+row_or RecordingUnsorted row = row
+row_or WindowBackward row = row
+row_or NoCalibratedState row = row
+row_or SingularTransitions row = row
+row_or NotConverged row = row
+row_or Unrepresentable row = row

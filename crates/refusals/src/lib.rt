@@ -1,6 +1,8 @@
 // Document 01's refusals and their numbers. The functions are for the crates above, not for users.
+#![tactic(auto)]
+
 ghost use Rattle.std.specs.Prelude.{◌≡◌};
-ghost use Rattle.refusals.specs.Refusals.{number_of, checkNumber, rowOr};
+ghost use Rattle.refusals.specs.Refusals.{number_of, check_number, row_or};
 
 // Document 01's refusals; the number of each is `number_of` of specs/Refusals.antt.
 #[derive(Drop)]
@@ -63,7 +65,7 @@ pub fn number_of(r: Refusal) -> u64
 
 // 0 if nothing is refused, else the refusal's number.
 pub fn check_number(k: Check) -> u64
-    ensures { result ≡ checkNumber k }
+    ensures { result ≡ check_number k }
 {
     match k {
         Check::Fine => 0,
@@ -73,7 +75,7 @@ pub fn check_number(k: Check) -> u64
 
 // The row that 13 names; of any other refusal, the row given.
 pub fn row_or(r: Refusal, row: u64) -> u64
-    ensures { result ≡ rowOr r row }
+    ensures { result ≡ row_or r row }
 {
     let Refusal::ModelRow(i) = r else {
         return row;

@@ -11,9 +11,9 @@ use lib.ListN.{length, get_or, replicate, length-replicate, get_or-replicate}
 use borrow.Author.Tests.{eqb-true}
 use Rattle.basics.specs.Lists.{bit, count, tab, square, sum}
 use Rattle.basics.proofs.Tests.{both, fails, eqb_same, same_test}
-use Rattle.basics.proofs.Lists.{length-tab, getD-tab, tab-ext, tab-getD, flat-row, flat-column, flat-below, getD-square, square-getD, sum-tab-add, sum-tab-zero, sum-tab-one, sum-replicate}
-use Rattle.tally.specs.Entries.{Entry, is_zero, entryCell}
-use Rattle.tally.specs.Events.{Event, first, skip, pair, Counts, entries, goes, totalAt, isPair, isSkip, isFirst, after, zeros}
+use Rattle.basics.proofs.Lists.{length-tab, get_d-tab, tab-ext, tab-get_d, flat-row, flat-column, flat-below, get_d-square, square-get_d, sum-tab-add, sum-tab-zero, sum-tab-one, sum-replicate}
+use Rattle.tally.specs.Entries.{Entry, is_zero, entry_cell}
+use Rattle.tally.specs.Events.{Event, first, skip, pair, Counts, entries, goes, total_at, is_pair, is_skip, is_first, after, zeros}
 use Rattle.tally.specs.Rules.{Rule, InRange, Lawful, events, AllIn}
 use Rattle.tally.specs.Balance.{Sized, Balanced}
 use Rattle.tally.proofs.Step.{goes-own, goes-cell, cell_at}
@@ -38,7 +38,7 @@ after_none K N mirror c z =
   where
     skips : tab K (λ k. get_or c.skips k 0 + 0) ≡ c.skips
     skips =
-        tab-ext K _ (λ k. get_or c.skips k 0) (λ k b. add-zero (get_or c.skips k 0)) ∙ tab-getD c.skips K 0 z.skip-kinds
+        tab-ext K _ (λ k. get_or c.skips k 0) (λ k b. add-zero (get_or c.skips k 0)) ∙ tab-get_d c.skips K 0 z.skip-kinds
 
     largest : max c.largest 0 ≡ c.largest
     largest = omega arith
@@ -46,12 +46,12 @@ after_none K N mirror c z =
     cells : (l : List ℕ) → length l ≡ N * N → square N (λ i j. get_or l (i * N + j) 0 + 0) ≡ l
     cells l e =
         tab-ext (N * N) _ (λ k. get_or l (k / N * N + k % N) 0) (λ k b. add-zero (get_or l (k / N * N + k % N) 0))
-        ∙ square-getD N l 0 e
+        ∙ square-get_d N l 0 e
 
     totals : tab N (λ i. get_or c.tables.totals i (pos 0) +ℤ pos 0) ≡ c.tables.totals
     totals =
         tab-ext N _ (λ i. get_or c.tables.totals i (pos 0)) (λ i b. +ℤ_idr (get_or c.tables.totals i (pos 0)))
-        ∙ tab-getD c.tables.totals N (pos 0) z.totals-cells
+        ∙ tab-get_d c.tables.totals N (pos 0) z.totals-cells
 
 -- ---- sizes
 
@@ -124,13 +124,13 @@ module _ (K N : ℕ) (mirror : ℕ → ℕ) (below : (i : ℕ) → i < N → mir
         two : bit ((eqb (mirror a) (mirror i) && eqb (mirror b) (mirror j)) && t (neg_ℤ d)) ≡ bit ((eqb a i && eqb b j) && t d)
         two = rw (swap-both a i r.0.0 hi, swap-both b j r.0.1 hj, even d)
 
-  sums-mirrored : (es : List Event) → AllIn K N es → (i : ℕ) → i < N → totalAt (entries mirror es) (mirror i) ≡ neg_ℤ (totalAt (entries mirror es) i)
+  sums-mirrored : (es : List Event) → AllIn K N es → (i : ℕ) → i < N → total_at (entries mirror es) (mirror i) ≡ neg_ℤ (total_at (entries mirror es) i)
   sums-mirrored [] r i hi = refl
   sums-mirrored (first ∷ es) r i hi = sums-mirrored es r.1 i hi
   sums-mirrored (skip k ∷ es) r i hi = sums-mirrored es r.1 i hi
   sums-mirrored (pair a b d ∷ es) r i hi =
       (λ u. part (swap a i r.0.0 hi u) d +ℤ (part (swap-both a i r.0.0 hi u) (neg_ℤ d) +ℤ sums-mirrored es r.1 i hi u))
-      ∙ turned (eqb (mirror a) i) (eqb a i) (totalAt (entries mirror es) i)
+      ∙ turned (eqb (mirror a) i) (eqb a i) (total_at (entries mirror es) i)
     where
       part : Bool → ℤ → ℤ
       part x n = cond x n (pos 0)
@@ -174,12 +174,12 @@ sum-cells N t (e ∷ F) r =
 
     single : sum (tab (N * N) own) ≡ bit (t e)
     single =
-        sum-tab-one (N * N) own (entryCell N e) (flat-below N e.from e.to r.1 N r.0)
+        sum-tab-one (N * N) own (entry_cell N e) (flat-below N e.from e.to r.1 N r.0)
         (λ k b q. ap bit (fails _ (λ h. q (goes-cell N k e (both (goes (k / N) (k % N) e) (t e) h).0))))
         ∙ rw (flat-row N e.from e.to r.1, flat-column N e.from e.to r.1, goes-own e)
 
 two-sorts : (mirror : ℕ → ℕ) (es : List Event)
-    → count (λ e. is_zero e.change) (entries mirror es) + count (λ e. not (is_zero e.change)) (entries mirror es) ≡ 2 * count isPair es
+    → count (λ e. is_zero e.change) (entries mirror es) + count (λ e. not (is_zero e.change)) (entries mirror es) ≡ 2 * count is_pair es
 two-sorts mirror [] = refl
 two-sorts mirror (first ∷ es) = omega (arith, two-sorts mirror es)
 two-sorts mirror (skip k ∷ es) = omega (arith, two-sorts mirror es)
@@ -200,10 +200,10 @@ after-balanced K N mirror below again c z B es r =
           mirrored (λ d. not (is_zero d)) (λ d. ap not (zero-neg d)) c.tables.moved B.moved-mirrored;
       totals-mirrored =
           λ i hi.
-          getD-tab N total (mirror i) (pos 0) (below i hi)
+          get_d-tab N total (mirror i) (pos 0) (below i hi)
           ∙ (λ u. B.totals-mirrored i hi u +ℤ sums-mirrored K N mirror below again es r i hi u)
           ∙ sym
-          (ap neg_ℤ (getD-tab N total i (pos 0) hi) ∙ neg_ℤ-+ℤ (get_or c.tables.totals i (pos 0)) (totalAt F i));
+          (ap neg_ℤ (get_d-tab N total i (pos 0) hi) ∙ neg_ℤ-+ℤ (get_or c.tables.totals i (pos 0)) (total_at F i));
       twice =
           omega (
             arith,
@@ -218,16 +218,16 @@ after-balanced K N mirror below again c z B es r =
     F = entries mirror es
 
     total : ℕ → ℤ
-    total i = get_or c.tables.totals i (pos 0) +ℤ totalAt F i
+    total i = get_or c.tables.totals i (pos 0) +ℤ total_at F i
 
     mirrored : (t : ℤ → Bool) → ((d : ℤ) → t (neg_ℤ d) ≡ t d) → (l : List ℕ)
         → ((i j : ℕ) → i < N → j < N → get_or l (mirror i * N + mirror j) 0 ≡ get_or l (i * N + j) 0) → (i j : ℕ) → i < N → j < N
         → get_or (square N (λ x y. get_or l (x * N + y) 0 + cell_at (λ e. t e.change) F x y)) (mirror i * N + mirror j) 0 ≡ get_or
         (square N (λ x y. get_or l (x * N + y) 0 + cell_at (λ e. t e.change) F x y)) (i * N + j) 0
     mirrored t even l b i j hi hj =
-        getD-square N f (mirror i) (mirror j) 0 (below i hi) (below j hj)
+        get_d-square N f (mirror i) (mirror j) 0 (below i hi) (below j hj)
         ∙ (λ u. b i j hi hj u + cells-mirrored K N mirror below again t even es r i j hi hj u)
-        ∙ sym (getD-square N f i j 0 hi hj)
+        ∙ sym (get_d-square N f i j 0 hi hj)
       where
         f : ℕ → ℕ → ℕ
         f x y = get_or l (x * N + y) 0 + cell_at (λ e. t e.change) F x y
@@ -235,13 +235,13 @@ after-balanced K N mirror below again c z B es r =
     sums : (l : List ℕ) → length l ≡ N * N → (t : Entry → Bool) → sum (square N (λ x y. get_or l (x * N + y) 0 + cell_at t F x y)) ≡ sum l + count t F
     sums l e t =
         sum-tab-add (N * N) (λ k. get_or l (k / N * N + k % N) 0) (λ k. cell_at t F (k / N) (k % N))
-        ∙ (λ u. sum (square-getD N l 0 e u) + sum-cells N t F (entries_below K N mirror below es r) u)
+        ∙ (λ u. sum (square-get_d N l 0 e u) + sum-cells N t F (entries_below K N mirror below es r) u)
 
 -- ---- neighbours
 
 module _ (K N : ℕ) where
   -- an event is a pair, a skip of one kind, or a first
-  one-sort : (e : Event) → InRange K N e → bit (isPair e) + sum (tab K (λ k. bit (isSkip k e))) + bit (isFirst e) ≡ 1
+  one-sort : (e : Event) → InRange K N e → bit (is_pair e) + sum (tab K (λ k. bit (is_skip k e))) + bit (is_first e) ≡ 1
   one-sort first h = omega (arith, sum-tab-zero K (λ k. 0) (λ k b. refl))
   one-sort (skip m) h = omega (arith, sum-tab-one K own m h (λ k b q. ap bit (fails _ (λ p. q (sym (eqb-true m k p))))), ap bit (eqb_same m))
     where
@@ -249,11 +249,11 @@ module _ (K N : ℕ) where
       own k = bit (eqb m k)
   one-sort (pair i j d) h = omega (arith, sum-tab-zero K (λ k. 0) (λ k b. refl))
 
-  all-sorts : (es : List Event) → AllIn K N es → count isPair es + sum (tab K (λ k. count (isSkip k) es)) + count isFirst es ≡ length es
+  all-sorts : (es : List Event) → AllIn K N es → count is_pair es + sum (tab K (λ k. count (is_skip k) es)) + count is_first es ≡ length es
   all-sorts [] r = omega (arith, sum-tab-zero K (λ k. 0) (λ k b. refl))
   all-sorts (e ∷ es) r =
       omega
-      (arith, one-sort e r.0, all-sorts es r.1, sum-tab-add K (λ k. bit (isSkip k e)) (λ k. count (isSkip k) es))
+      (arith, one-sort e r.0, all-sorts es r.1, sum-tab-add K (λ k. bit (is_skip k e)) (λ k. count (is_skip k) es))
 
 module _ (R : Rule) (W : Lawful R) where
   length-events : (l : R.Last) (qs : List R.Quote) → length (events R l qs) ≡ length qs
@@ -261,7 +261,7 @@ module _ (R : Rule) (W : Lawful R) where
   length-events l (q ∷ qs) = ap suc (length-events (R.arrive l q) qs)
 
   -- once started, no event is a first
-  firsts-none : (l : R.Last) (qs : List R.Quote) → R.started l ≡ true → count isFirst (events R l qs) ≡ 0
+  firsts-none : (l : R.Last) (qs : List R.Quote) → R.started l ≡ true → count is_first (events R l qs) ≡ 0
   firsts-none l [] e = refl
   firsts-none l (q ∷ qs) e =
       omega
@@ -269,7 +269,7 @@ module _ (R : Rule) (W : Lawful R) where
 
   -- pairs and skips are the quotes less one, and 0 for none
   pub neighbours-counted : (l : R.Last) (qs : List R.Quote) → R.started l ≡ false
-      → count isPair (events R l qs) + sum (tab R.kinds (λ k. count (isSkip k) (events R l qs))) ≡ length qs - 1
+      → count is_pair (events R l qs) + sum (tab R.kinds (λ k. count (is_skip k) (events R l qs))) ≡ length qs - 1
   neighbours-counted l [] e = omega (arith, sum-tab-zero R.kinds (λ k. 0) (λ k b. refl))
   neighbours-counted l (q ∷ qs) e =
       omega (

@@ -10,7 +10,7 @@ use mir.Syntax.{w64}
 use mir.Val.{SFits, to_z, of_z}
 use mir.Facts.{to_z-of_z}
 use borrow.Author.Tests.{lt-ltb, le-ltb, lt-leb, ltb-true, ltb-false, leb-true}
-use Rattle.basics.specs.Domain.{cellLimit, mostHalfTicks}
+use Rattle.basics.specs.Domain.{cell_limit, most_half_ticks}
 use Rattle.tally.specs.Totals.{change, within}
 
 size-cond : (t : Bool) (x y : ℤ) (n : ℕ) → nat_abs x ≤ n → nat_abs y ≤ n → nat_abs (cond t x y) ≤ n
@@ -54,7 +54,7 @@ change-neg a b =
 pub change-size : (a b : ℕ) → nat_abs (change a b) ≤ a + b
 change-size a b = omega (arith, size-add (pos b) (neg_ℤ (pos a)), size-neg (pos a))
 
-module _ (a b : ℕ) (p : a ≤ mostHalfTicks) (q : b ≤ mostHalfTicks) where
+module _ (a b : ℕ) (p : a ≤ most_half_ticks) (q : b ≤ most_half_ticks) where
   change-mag : mag (change a b) < 2 ^ 63
   change-mag = omega (arith, change-size a b, mag-le (change a b))
 
@@ -75,33 +75,33 @@ module _ (a b : ℕ) (p : a ≤ mostHalfTicks) (q : b ≤ mostHalfTicks) where
     sum_is = rw (change-is, back total (omega (arith, mag-le total))) (back (total +ℤ change a b) sum-mag)
 
 -- the test of the two ends is the test of the size
-pub within-ends : (z : ℤ) → (le_z (neg_ℤ (pos cellLimit)) z && le_z z (pos cellLimit)) ≡ within z
+pub within-ends : (z : ℤ) → (le_z (neg_ℤ (pos cell_limit)) z && le_z z (pos cell_limit)) ≡ within z
 within-ends (pos n) = refl
-within-ends (negsuc n) = and-true (leb n (cellLimit - 1)) ∙ sym (leb-suc-suc n (cellLimit - 1))
+within-ends (negsuc n) = and-true (leb n (cell_limit - 1)) ∙ sym (leb-suc-suc n (cell_limit - 1))
 
-pub within-size : (z : ℤ) → within z ≡ true → nat_abs z ≤ cellLimit
-within-size z e = leb-true (nat_abs z) cellLimit e
+pub within-size : (z : ℤ) → within z ≡ true → nat_abs z ≤ cell_limit
+within-size z e = leb-true (nat_abs z) cell_limit e
 
 -- the test for a total far outside is a test of its size
-abbrev isFar : ℤ → Bool
-isFar z = lt_z z (neg_ℤ (pos (2 * cellLimit))) || lt_z (pos (2 * cellLimit)) z
+abbrev is_far : ℤ → Bool
+is_far z = lt_z z (neg_ℤ (pos (2 * cell_limit))) || lt_z (pos (2 * cell_limit)) z
 
-outside : (z : ℤ) → isFar z ≡ ltb (2 * cellLimit) (nat_abs z)
+outside : (z : ℤ) → is_far z ≡ ltb (2 * cell_limit) (nat_abs z)
 outside (pos n) = refl
-outside (negsuc n) = or-false (ltb (2 * cellLimit - 1) n) ∙ sym (leb-suc-suc (2 * cellLimit) n)
+outside (negsuc n) = or-false (ltb (2 * cell_limit - 1) n) ∙ sym (leb-suc-suc (2 * cell_limit) n)
 
 -- the code makes it of the word that holds the total
 module _ (total : ℤ) (h : mag total < 2 ^ 63) where
-  far-size : (b : Bool) → isFar (to_z w64 (of_z w64 total)) ≡ b → ltb (2 * cellLimit) (nat_abs total) ≡ b
+  far-size : (b : Bool) → is_far (to_z w64 (of_z w64 total)) ≡ b → ltb (2 * cell_limit) (nat_abs total) ≡ b
   far-size b e = sym (outside total) ∙ (rw (back total h) at e)
 
-  pub far : isFar (to_z w64 (of_z w64 total)) ≡ true → (d : ℤ) → nat_abs d ≤ cellLimit → within (total +ℤ d) ≡ false
+  pub far : is_far (to_z w64 (of_z w64 total)) ≡ true → (d : ℤ) → nat_abs d ≤ cell_limit → within (total +ℤ d) ≡ false
   far e d s =
-      lt-leb (nat_abs (total +ℤ d)) cellLimit
-      (omega (arith, size-part total d, ltb-true (2 * cellLimit) (nat_abs total) (far-size true e)))
+      lt-leb (nat_abs (total +ℤ d)) cell_limit
+      (omega (arith, size-part total d, ltb-true (2 * cell_limit) (nat_abs total) (far-size true e)))
 
-  pub near : isFar (to_z w64 (of_z w64 total)) ≡ false → nat_abs total < 2 ^ 60
-  near e = omega (arith, ltb-false (2 * cellLimit) (nat_abs total) (far-size false e))
+  pub near : is_far (to_z w64 (of_z w64 total)) ≡ false → nat_abs total < 2 ^ 60
+  near e = omega (arith, ltb-false (2 * cell_limit) (nat_abs total) (far-size false e))
 
 -- the distance is the change's size
 pub distance-down : (a b : ℕ) → b < a → a - b ≡ nat_abs (change a b)

@@ -1,7 +1,7 @@
 -- What quotes make with those before them, and what such events add to counts: document 01, "The history".
 use Rattle.std.specs.Prelude.{ℕ, ◌+◌, ◌*◌, max, Bool, true, false, not, cond, ◌&&◌, List, [], ◌∷◌, eqb, ℤ, pos, nat_abs, ◌+ℤ◌, get_or, replicate}
 use Rattle.basics.specs.Lists.{count, sum_of, greatest, tab, square, cell_at}
-use Rattle.tally.specs.Entries.{Entry, Tables, is_zero, bump, enterBoth, forth, back}
+use Rattle.tally.specs.Entries.{Entry, Tables, is_zero, bump, enter_both, forth, back}
 
 -- What a quote makes with the one before it: nothing, where it is the first; a skip of a kind, by number; or a pair from state to state with its change.
 pub data Event : Type 0 where
@@ -27,7 +27,7 @@ entered N mirror (pair i j d) c =
       pairs = c.pairs + 1;
       skips = c.skips;
       largest = max c.largest (nat_abs d);
-      tables = enterBoth N (forth i j d) (back mirror i j d) c.tables;
+      tables = enter_both N (forth i j d) (back mirror i j d) c.tables;
     }
 
 -- ---- many events
@@ -44,30 +44,30 @@ abbrev pub goes : ℕ → ℕ → Entry → Bool
 goes i j e = eqb e.from i && eqb e.to j
 
 -- stay (i, j) counts pairs and mirrors from i to j with change 0, moved those with another
-abbrev pub stayAt : List Entry → ℕ → ℕ → ℕ
-stayAt es i j = count (λ e. goes i j e && is_zero e.change) es
+abbrev pub stay_at : List Entry → ℕ → ℕ → ℕ
+stay_at es i j = count (λ e. goes i j e && is_zero e.change) es
 
-abbrev pub movedAt : List Entry → ℕ → ℕ → ℕ
-movedAt es i j = count (λ e. goes i j e && not (is_zero e.change)) es
+abbrev pub moved_at : List Entry → ℕ → ℕ → ℕ
+moved_at es i j = count (λ e. goes i j e && not (is_zero e.change)) es
 
 -- move total i sums the changes of those from i
-abbrev pub totalAt : List Entry → ℕ → ℤ
-totalAt es i = sum_of (λ e. cond (eqb e.from i) e.change (pos 0)) es
+abbrev pub total_at : List Entry → ℕ → ℤ
+total_at es i = sum_of (λ e. cond (eqb e.from i) e.change (pos 0)) es
 
-abbrev pub isPair : Event → Bool
-isPair first = false
-isPair (skip k) = false
-isPair (pair i j d) = true
+abbrev pub is_pair : Event → Bool
+is_pair first = false
+is_pair (skip k) = false
+is_pair (pair i j d) = true
 
-abbrev pub isSkip : ℕ → Event → Bool
-isSkip k first = false
-isSkip k (skip m) = eqb m k
-isSkip k (pair i j d) = false
+abbrev pub is_skip : ℕ → Event → Bool
+is_skip k first = false
+is_skip k (skip m) = eqb m k
+is_skip k (pair i j d) = false
 
-abbrev pub isFirst : Event → Bool
-isFirst first = true
-isFirst (skip k) = false
-isFirst (pair i j d) = false
+abbrev pub is_first : Event → Bool
+is_first first = true
+is_first (skip k) = false
+is_first (pair i j d) = false
 
 -- the size of a counted pair's change
 abbrev pub size_of : Event → ℕ
@@ -79,14 +79,14 @@ size_of (pair i j d) = nat_abs d
 abbrev pub after : ℕ → ℕ → (ℕ → ℕ) → Counts → List Event → Counts
 after K N mirror c es =
     record {
-      pairs = c.pairs + count isPair es;
-      skips = tab K (λ k. get_or c.skips k 0 + count (isSkip k) es);
+      pairs = c.pairs + count is_pair es;
+      skips = tab K (λ k. get_or c.skips k 0 + count (is_skip k) es);
       largest = max c.largest (greatest size_of es);
       tables =
           record {
-            stay = square N (λ i j. cell_at N c.tables.stay i j + stayAt (entries mirror es) i j);
-            moved = square N (λ i j. cell_at N c.tables.moved i j + movedAt (entries mirror es) i j);
-            totals = tab N (λ i. get_or c.tables.totals i (pos 0) +ℤ totalAt (entries mirror es) i);
+            stay = square N (λ i j. cell_at N c.tables.stay i j + stay_at (entries mirror es) i j);
+            moved = square N (λ i j. cell_at N c.tables.moved i j + moved_at (entries mirror es) i j);
+            totals = tab N (λ i. get_or c.tables.totals i (pos 0) +ℤ total_at (entries mirror es) i);
           };
     }
 

@@ -1,25 +1,25 @@
 -- For the contracts and proofs of inner functions alone: a pair as code holds it, and what entering asks of places and of words.
 use Rattle.std.specs.Prelude.{ℕ, ◌*◌, ◌≤◌, ◌<◌, Bool, ◌||◌, List, ℤ, pos, neg_ℤ, get_or, ◌≡◌}
-use Rattle.basics.specs.Domain.{mostHalfTicks}
-use Rattle.tally.specs.Totals.{change, addAt}
+use Rattle.basics.specs.Domain.{most_half_ticks}
+use Rattle.tally.specs.Totals.{change, add_at}
 use Rattle.tally.specs.declared.PairEntry.{PairEntry}
-use Rattle.tally.specs.Entries.{Entry, forth, bump, overCell, overTotal}
+use Rattle.tally.specs.Entries.{Entry, forth, bump, over_cell, over_total}
 
 -- the two entries of a pair as code holds it
-abbrev pub forthOf : PairEntry → Entry
-forthOf e = forth e.from e.to (change e.mid_from e.mid_to)
+abbrev pub forth_of : PairEntry → Entry
+forth_of e = forth e.from e.to (change e.mid_from e.mid_to)
 
-abbrev pub backOf : PairEntry → Entry
-backOf e = record { from = e.mirror_from; to = e.mirror_to; change = neg_ℤ (change e.mid_from e.mid_to) }
+abbrev pub back_of : PairEntry → Entry
+back_of e = record { from = e.mirror_from; to = e.mirror_to; change = neg_ℤ (change e.mid_from e.mid_to) }
 
 -- after one more at a and one more at b, a cell there is over its limit
-abbrev pub cellsOver : List ℕ → ℕ → ℕ → Bool
-cellsOver l a b = overCell (get_or (bump (bump l a) b) a 0) || overCell (get_or (bump (bump l a) b) b 0)
+abbrev pub cells_over : List ℕ → ℕ → ℕ → Bool
+cells_over l a b = over_cell (get_or (bump (bump l a) b) a 0) || over_cell (get_or (bump (bump l a) b) b 0)
 
 -- after d at a and −d at b, a total there is over its limit
-abbrev pub totalsOver : List ℤ → ℕ → ℕ → ℤ → Bool
-totalsOver l a b d =
-    overTotal (get_or (addAt (addAt l a d) b (neg_ℤ d)) a (pos 0)) || overTotal (get_or (addAt (addAt l a d) b (neg_ℤ d)) b (pos 0))
+abbrev pub totals_over : List ℤ → ℕ → ℕ → ℤ → Bool
+totals_over l a b d =
+    over_total (get_or (add_at (add_at l a d) b (neg_ℤ d)) a (pos 0)) || over_total (get_or (add_at (add_at l a d) b (neg_ℤ d)) b (pos 0))
 
 -- a pair between states below n, in tables of their lengths, its mids as small as accepted quotes' are
 pub record Placed (n : ℕ) (e : PairEntry) (stay moved totals : ℕ) : Type 0 where
@@ -31,5 +31,5 @@ pub record Placed (n : ℕ) (e : PairEntry) (stay moved totals : ℕ) : Type 0 w
   pub stay-cells : stay ≡ n * n
   pub moved-cells : moved ≡ n * n
   pub totals-cells : totals ≡ n
-  pub mid-from-most : e.mid_from ≤ mostHalfTicks
-  pub mid-to-most : e.mid_to ≤ mostHalfTicks
+  pub mid-from-most : e.mid_from ≤ most_half_ticks
+  pub mid-to-most : e.mid_to ≤ most_half_ticks

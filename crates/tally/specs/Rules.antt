@@ -1,6 +1,6 @@
 -- A rule of neighbours, and what a list of quotes comes to under it: document 01, "The history".
 use Rattle.std.specs.Prelude.{ℕ, ◌<◌, ◌≡◌, Bool, true, not, List, [], ◌∷◌}
-use Rattle.tally.specs.Events.{Event, first, skip, pair, isFirst, Counts, entered, after}
+use Rattle.tally.specs.Events.{Event, first, skip, pair, is_first, Counts, entered, after}
 
 -- What a calibrator counts by. `Last` is what is carried from a quote to the next: the last quote, if any, and whatever else a state needs.
 pub record Rule : Type 1 where
@@ -25,7 +25,7 @@ pub record Lawful (R : Rule) : Type 0 where
   pub mirror-below : (i : ℕ) → i < R.states → R.mirror i < R.states
   pub mirror-twice : (i : ℕ) → i < R.states → R.mirror (R.mirror i) ≡ i
   pub event-in : (l : R.Last) (q : R.Quote) → InRange R.kinds R.states (R.event l q)
-  pub event-first : (l : R.Last) (q : R.Quote) → isFirst (R.event l q) ≡ not (R.started l)
+  pub event-first : (l : R.Last) (q : R.Quote) → is_first (R.event l q) ≡ not (R.started l)
   pub arrive-started : (l : R.Last) (q : R.Quote) → R.started (R.arrive l q) ≡ true
 
 -- what is carried, and the counts
@@ -51,8 +51,8 @@ carried R l [] = l
 carried R l (q ∷ qs) = carried R (R.arrive l q) qs
 
 -- the memory of the quotes, on top of counts that they start from
-abbrev pub memoryOf : (R : Rule) → R.Last → Counts → List R.Quote → Memory R.Last
-memoryOf R l c qs =
+abbrev pub memory_of : (R : Rule) → R.Last → Counts → List R.Quote → Memory R.Last
+memory_of R l c qs =
     record {
       last = carried R l qs;
       counts = after R.kinds R.states R.mirror c (events R l qs);

@@ -1,14 +1,16 @@
 // Counting pairs into tables. Inner functions: for the crates above, not for users. Where one has a `requires`, each caller proves it.
+#![tactic(auto)]
+
 pub mod totals;
 
 ghost use Rattle.std.specs.Prelude.{◌≡◌, ◌≢◌, not, false, ◌+◌, ◌*◌, ◌≤◌, ◌<◌, length, neg_ℤ};
-ghost use Rattle.basics.specs.Lists.{cellIndex};
+ghost use Rattle.basics.specs.Lists.{cell_index};
 ghost use Rattle.basics.specs.Loan.{given, final};
-ghost use Rattle.basics.specs.Domain.{mostHalfTicks};
-ghost use Rattle.tally.specs.Totals.{change, addAt};
-ghost use Rattle.tally.specs.Entries.{bump, tables, enterBoth, touchedOver};
-ghost use Rattle.tally.specs.Inner.{forthOf, backOf, Placed, cellsOver, totalsOver};
-ghost use Rattle.tally.specs.Limits.{overCounter};
+ghost use Rattle.basics.specs.Domain.{most_half_ticks};
+ghost use Rattle.tally.specs.Totals.{change, add_at};
+ghost use Rattle.tally.specs.Entries.{bump, tables, enter_both, touched_over};
+ghost use Rattle.tally.specs.Inner.{forth_of, back_of, Placed, cells_over, totals_over};
+ghost use Rattle.tally.specs.Limits.{over_counter};
 
 use basics::{CELL_LIMIT, COUNTER_LIMIT};
 
@@ -25,7 +27,7 @@ pub struct PairEntry {
 
 // Whether a counter, whatever it is, may be added to.
 pub fn may_count(counter: u64) -> bool
-    ensures { result ≡ not (overCounter (counter + 1)) }
+    ensures { result ≡ not (over_counter (counter + 1)) }
 {
     counter < COUNTER_LIMIT
 }
@@ -33,7 +35,7 @@ pub fn may_count(counter: u64) -> bool
 // The place of cell (i, j) in a flat table of n states.
 pub fn cell(n: usize, i: usize, j: usize) -> usize
     requires { (n ≤ 256) × (i < n) × (j < n) }
-    ensures { (result ≡ cellIndex n i j) × (result < n * n) }
+    ensures { (result ≡ cell_index n i j) × (result < n * n) }
 {
     i * n + j
 }
@@ -50,7 +52,7 @@ fn once_more(a: usize, b: usize) -> u64
 
 fn cells_within(t: &[u64], a: usize, b: usize) -> bool
     requires { (a < length t.now) × (b < length t.now) }
-    ensures { result ≡ not (cellsOver (given t) a b) }
+    ensures { result ≡ not (cells_over (given t) a b) }
 {
     let x = t[a];
     let y = t[b];
@@ -59,7 +61,7 @@ fn cells_within(t: &[u64], a: usize, b: usize) -> bool
 }
 
 fn add_cells(t: &mut [u64], a: usize, b: usize)
-    requires { (a < length t.old) × (b < length t.old) × (cellsOver t.old a b ≡ false) }
+    requires { (a < length t.old) × (b < length t.old) × (cells_over t.old a b ≡ false) }
     ensures { final t ≡ bump (bump (given t) a) b }
 {
     t[a] += 1;
@@ -67,8 +69,8 @@ fn add_cells(t: &mut [u64], a: usize, b: usize)
 }
 
 fn totals_within(t: &[i64], a: usize, b: usize, from: u64, to: u64) -> bool
-    requires { (a < length t.now) × (b < length t.now) × (from ≤ mostHalfTicks) × (to ≤ mostHalfTicks) }
-    ensures { result ≡ not (totalsOver (given t) a b (change from to)) }
+    requires { (a < length t.now) × (b < length t.now) × (from ≤ most_half_ticks) × (to ≤ most_half_ticks) }
+    ensures { result ≡ not (totals_over (given t) a b (change from to)) }
 {
     if a == b {
         return totals::is_within_at(t, a);
@@ -79,8 +81,8 @@ fn totals_within(t: &[i64], a: usize, b: usize, from: u64, to: u64) -> bool
 }
 
 fn add_totals(t: &mut [i64], a: usize, b: usize, from: u64, to: u64)
-    requires { (a < length t.old) × (b < length t.old) × (from ≤ mostHalfTicks) × (to ≤ mostHalfTicks) × (totalsOver t.old a b (change from to) ≡ false) }
-    ensures { final t ≡ addAt (addAt (given t) a (change from to)) b (neg_ℤ (change from to)) }
+    requires { (a < length t.old) × (b < length t.old) × (from ≤ most_half_ticks) × (to ≤ most_half_ticks) × (totals_over t.old a b (change from to) ≡ false) }
+    ensures { final t ≡ add_at (add_at (given t) a (change from to)) b (neg_ℤ (change from to)) }
 {
     totals::add_at(t, a, from, to);
     totals::add_at(t, b, to, from);
@@ -95,7 +97,7 @@ pub fn pair_within(
     e: PairEntry,
 ) -> bool
     requires { Placed n e (length stay.now) (length moved.now) (length move_half_ticks.now) }
-    ensures { result ≡ not (touchedOver n (forthOf e) (backOf e) (enterBoth n (forthOf e) (backOf e) (tables (given stay) (given moved) (given move_half_ticks)))) }
+    ensures { result ≡ not (touched_over n (forth_of e) (back_of e) (enter_both n (forth_of e) (back_of e) (tables (given stay) (given moved) (given move_half_ticks)))) }
 {
     let a = cell(n, e.from, e.to);
     let b = cell(n, e.mirror_from, e.mirror_to);
@@ -115,8 +117,8 @@ pub fn enter_pair(
     e: PairEntry,
 )
     requires { Placed n e (length stay.old) (length moved.old) (length move_half_ticks.old)
-        × (touchedOver n (forthOf e) (backOf e) (enterBoth n (forthOf e) (backOf e) (tables stay.old moved.old move_half_ticks.old)) ≡ false) }
-    ensures { tables (final stay) (final moved) (final move_half_ticks) ≡ enterBoth n (forthOf e) (backOf e) (tables (given stay) (given moved) (given move_half_ticks)) }
+        × (touched_over n (forth_of e) (back_of e) (enter_both n (forth_of e) (back_of e) (tables stay.old moved.old move_half_ticks.old)) ≡ false) }
+    ensures { tables (final stay) (final moved) (final move_half_ticks) ≡ enter_both n (forth_of e) (back_of e) (tables (given stay) (given moved) (given move_half_ticks)) }
 {
     let a = cell(n, e.from, e.to);
     let b = cell(n, e.mirror_from, e.mirror_to);

@@ -1,5 +1,5 @@
 -- `abi_batch::micro_price_calibrate` meets its contract. The ways out: words of other lengths are answered 100 and nothing is written, the second
--- case of `calibrateWords`; else the words hold the configuration, and what the evening leaves goes back as a number, with the record's words where quotes were
+-- case of `calibrate_words`; else the words hold the configuration, and what the evening leaves goes back as a number, with the record's words where quotes were
 -- counted and the number of invalid quotes where there was a fit (`evening-words`). The calls after the test ask of the words only what the test says
 -- (`known`). No loop.
 use mathlib.Core.Path.{sym, ◌∙◌}

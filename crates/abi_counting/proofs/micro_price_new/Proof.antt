@@ -1,5 +1,5 @@
 -- `abi_counting::micro_price_new` meets its contract. The ways out: words of other lengths are answered 100 and nothing is written, the second case of
--- `newWords`; a refusal goes out as its number and no word is written (`outcome-refused`); else the new record is written over the ten words
+-- `new_words`; a refusal goes out as its number and no word is written (`outcome-refused`); else the new record is written over the ten words
 -- (`outcome-fine`). The calls after the test ask of the words only what the test says (`known`). No loop.
 use mathlib.Core.Path.{sym, ◌∙◌}
 use borrow.Author.Tests.{not-true, not-false}

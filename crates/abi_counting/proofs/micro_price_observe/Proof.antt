@@ -1,9 +1,9 @@
 -- `abi_counting::micro_price_observe` meets its contract. The ways out: words that are not encoded are answered 100 and nothing is written, the second case of
--- `observeWords`; a refused quote has its number answered and no word written (`outcome-refused`); a counted one has its record written back
+-- `observe_words`; a refused quote has its number answered and no word written (`outcome-refused`); a counted one has its record written back
 -- (`outcome-fine`). The calls after the test ask of the words only what the test says (`known`). No loop.
 use mathlib.Core.Path.{sym, ◌∙◌}
 use borrow.Author.Tests.{not-true, not-false}
-use Rattle.abi_encoding.specs.Encoding.{topOfBook}
+use Rattle.abi_encoding.specs.Encoding.{top_of_book}
 use Rattle.abi_encoding.proofs.Laws.{Encoded, encoded-by}
 use Rattle.calibrator.specs.Observe.{observed}
 use Rattle.abi_counting.proofs.CountingWords.{outcome-refused, outcome-fine}
@@ -36,7 +36,7 @@ returns-2 c =
     let a = at-start.args in
     outcome-refused a.config.now a.rec.now a.stay.now a.moved.now a.move-half-ticks.now (known at-else1)
     at-record-of.record_of.ensures at-config-of.config-of.ensures
-    (λ d m. observed d m (topOfBook a.timestamp-ms a.bid a.ask a.bid-size a.ask-size))
+    (λ d m. observed d m (top_of_book a.timestamp-ms a.bid a.ask a.bid-size a.ask-size))
     at-observe.observe.ensures c.before.enum-told2.given.1 c.check-number.ensures
 
 put-record-requires : tie.Need-put-record-requires
@@ -56,7 +56,7 @@ returns-3 c =
     let a = at-start.args in
     outcome-fine a.config.now a.rec.now a.stay.now a.moved.now a.move-half-ticks.now (known at-else1)
     at-record-of.record_of.ensures at-config-of.config-of.ensures
-    (λ d m. observed d m (topOfBook a.timestamp-ms a.bid a.ask a.bid-size a.ask-size))
+    (λ d m. observed d m (top_of_book a.timestamp-ms a.bid a.ask a.bid-size a.ask-size))
     at-observe.observe.ensures at-enum-told.enum_told.given.1 c.before.before.put_record.ensures
 
 pub micro-price-observe-spec : {M : Type 1} → statement M

@@ -1,4 +1,4 @@
--- `abi_encoding::record_of` meets its contract: the last quote by `previous_of`, the counters by words 6 to 9, as `recordOf` says. All reads lie in the slice
+-- `abi_encoding::record_of` meets its contract: the last quote by `previous_of`, the counters by words 6 to 9, as `record_of` says. All reads lie in the slice
 -- because there are ten words.
 use borrow.Author.Rules.{rules}
 use Rattle.abi_encoding.proofs.record_of.Statement.{statement}

@@ -1,10 +1,10 @@
 -- `abi_fit::micro_price_fit_counts` meets its contract. The ways out: words that are not encoded are answered 100 and nothing is written, the second case
--- of `fitWords`; encoded words hold the record and the configuration, and what `fit::inner::fit_counts` answers of them goes out as a number (`fit_words`). The
+-- of `fit_words`; encoded words hold the record and the configuration, and what `fit::inner::fit_counts` answers of them goes out as a number (`fit_words_lem`). The
 -- calls after the test ask of the words only what the test says (`known`). No loop.
 use mathlib.Core.Path.{sym, ◌∙◌}
 use borrow.Author.Tests.{not-true, not-false}
 use Rattle.abi_encoding.proofs.Laws.{Encoded, encoded-by}
-use Rattle.abi_fit.proofs.FitWords.{fit_words}
+use Rattle.abi_fit.proofs.FitWords.{fit_words_lem}
 use borrow.Author.Rules.{rules}
 use Rattle.abi_fit.proofs.micro_price_fit_counts.Statement.{statement}
 use Rattle.abi_fit.proofs.micro_price_fit_counts.Tie as tie
@@ -31,7 +31,7 @@ returns-2 c =
     let at-shared-slice-known4 : tie.After-shared-slice-known4 = search in
     let at-start : tie.Start = search in
     let a = at-start.args in
-    fit_words a.config.now a.rec.now a.stay.now a.moved.now a.move-half-ticks.now (known at-else1)
+    fit_words_lem a.config.now a.rec.now a.stay.now a.moved.now a.move-half-ticks.now (known at-else1)
     at-record-of.record_of.ensures at-config-of.config-of.ensures a.model.now a.scratch.now at-fit-counts.fit-counts.ensures
     c.check-number.ensures
 

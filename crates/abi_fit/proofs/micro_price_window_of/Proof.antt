@@ -1,4 +1,4 @@
--- `abi_fit::micro_price_window_of` meets its contract: `window_of` says what the window is, and each arm is one case of `ofWindow`: a part has its two ends
+-- `abi_fit::micro_price_window_of` meets its contract: `window_of` says what the window is, and each arm is one case of `of_window`: a part has its two ends
 -- written and is answered 0, a refusal leaves both words and is answered its number. No loop.
 use borrow.Author.Rules.{rules}
 use Rattle.abi_fit.proofs.micro_price_window_of.Statement.{statement}

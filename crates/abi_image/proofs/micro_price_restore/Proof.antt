@@ -1,5 +1,5 @@
 -- `abi_image::micro_price_restore` meets its contract. The ways out: words of other lengths are answered 100 and nothing is written, the second case
--- of `restoreWords`; an image is taken back, and the words of its record and configuration are written (`restore-taken`); an image is refused, its number goes
+-- of `restore_words`; an image is taken back, and the words of its record and configuration are written (`restore-taken`); an image is refused, its number goes
 -- out and no word is written (`restore-refused`). The calls after the test ask of the words only what the test says (`known`). No loop.
 use mathlib.Core.Path.{sym, ◌∙◌}
 use borrow.Author.Tests.{not-true, not-false}

@@ -1,5 +1,5 @@
 -- `abi_image::micro_price_save` meets its contract. The ways out: words that are not encoded are answered 100 and nothing is written, the second case of
--- `saveWords`; encoded words hold the record and the configuration, and what `image::inner::save` answers of them goes out as a number (`save-words`). The
+-- `save_words`; encoded words hold the record and the configuration, and what `image::inner::save` answers of them goes out as a number (`save-words`). The
 -- calls after the test ask of the words only what the test says (`known`). No loop.
 use mathlib.Core.Path.{sym, ◌∙◌}
 use borrow.Author.Tests.{not-true, not-false}

@@ -1,4 +1,4 @@
--- `abi_models::micro_price_check_model` meets its contract. The ways out: words of another length are answered 100, the second case of `checkModelWords`; a
+-- `abi_models::micro_price_check_model` meets its contract. The ways out: words of another length are answered 100, the second case of `check_model_words`; a
 -- model that is the configuration's is answered 0 (`check-words-fine`); a refusal goes out as its number, with the row that it names at 13, which `put_row`
 -- writes (`check-words-refused`). No loop.
 use borrow.Author.Tests.{eq-eqb, ne_eqb}

@@ -4,9 +4,9 @@
 use mathlib.Core.Path.{◌≡◌, sym, ◌∙◌}
 use borrow.Author.Rules.{rules}
 use Rattle.basics.proofs.Tests.{fits-mul}
-use Rattle.calibrator.specs.Record.{countsOf}
-use Rattle.count_check.specs.Mirrors.{storedOver}
-use Rattle.count_check.specs.Inner.{tablesIn}
+use Rattle.calibrator.specs.Record.{counts_of}
+use Rattle.count_check.specs.Mirrors.{stored_over}
+use Rattle.count_check.specs.Inner.{tables_in}
 use Rattle.count_check.proofs.Answers.{stored_is, pairs-most}
 use Rattle.count_check.proofs.check_counts.Statement.{statement}
 use Rattle.count_check.proofs.check_counts.Tie as tie
@@ -19,7 +19,7 @@ returns c =
 
 -- with the counters within their limits, 6 is what the test of the totals says
 six : (c : tie.After-totals-over) → let at-start : tie.Start = search in let a = at-start.args in
-    storedOver (countsOf a.counters (tablesIn a.imaged a.stay.now a.moved.now a.move-half-ticks.now a.sb.now a.mb.now a.tb.now))
+    stored_over (counts_of a.counters (tables_in a.imaged a.stay.now a.moved.now a.move-half-ticks.now a.sb.now a.mb.now a.tb.now))
     ≡ c.totals-over.result
 six c =
     let at-start : tie.Start = search in

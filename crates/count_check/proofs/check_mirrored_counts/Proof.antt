@@ -1,4 +1,4 @@
--- `count_check::check_mirrored_counts` meets its contract: the check of tables that are not imaged, so that `tablesIn` is the lent tables by computation. What
+-- `count_check::check_mirrored_counts` meets its contract: the check of tables that are not imaged, so that `tables_in` is the lent tables by computation. What
 -- is left is that the tables lie in the slices (`lent`, with the lengths that the contract requires); the bytes are not looked at.
 use borrow.Author.Rules.{rules}
 use Rattle.count_check.proofs.Readings.{lent}

@@ -10,10 +10,10 @@ use lib.IntN.{ℤ}
 use lib.ListN.{get_or}
 use borrow.Author.Count.{falls}
 use borrow.Author.Rules.{rules}
-use Rattle.refusals.specs.Refusals.{firstFrom}
+use Rattle.refusals.specs.Refusals.{first_from}
 use Rattle.refusals.specs.declared.Check.{Check}
-use Rattle.count_check.specs.Mirrors.{checkState}
-use Rattle.count_check.specs.Inner.{tablesIn}
+use Rattle.count_check.specs.Mirrors.{check_state}
+use Rattle.count_check.specs.Inner.{tables_in}
 use Rattle.refusals.proofs.Refusals.{first_step, first-stop, first-end}
 use Rattle.count_check.proofs.Walks.{whole}
 use Rattle.count_check.proofs.check_states.Statement.{statement}
@@ -21,11 +21,11 @@ use Rattle.count_check.proofs.check_states.Tie as tie
 
 abbrev state : ℕ → List ℕ → Bool → List ℕ → List ℕ → List ℤ → List ℕ → List ℕ → List ℕ → ℕ → Check
 state n mirrors imaged stay moved totals sb mb tb =
-    checkState n (λ k. get_or mirrors k 0) (tablesIn imaged stay moved totals sb mb tb)
+    check_state n (λ k. get_or mirrors k 0) (tables_in imaged stay moved totals sb mb tb)
 
 abbrev invariant-loop : tie.invariant-loop
 invariant-loop n mirrors stay moved totals sb mb tb imaged i₀ i =
-    firstFrom (state n mirrors imaged stay moved totals sb mb tb) 0 n ≡ firstFrom (state n mirrors imaged stay moved totals sb mb tb) i (n - i)
+    first_from (state n mirrors imaged stay moved totals sb mb tb) 0 n ≡ first_from (state n mirrors imaged stay moved totals sb mb tb) i (n - i)
 
 abbrev decreases-loop : tie.decreases-loop
 decreases-loop n mirrors stay moved totals sb mb tb imaged i₀ i = n - i
@@ -33,7 +33,7 @@ decreases-loop n mirrors stay moved totals sb mb tb imaged i₀ i = n - i
 loop-holds : tie.Need-loop-init invariant-loop decreases-loop
 loop-holds c =
     let at-start : tie.Start invariant-loop decreases-loop = search in
-    ap (firstFrom _ 0) (whole at-start.args.n)
+    ap (first_from _ 0) (whole at-start.args.n)
 
 check-state-requires : tie.Need-check-state-requires invariant-loop decreases-loop
 check-state-requires c κs =

@@ -1,12 +1,12 @@
--- `count_check::check_tables` meets its contract: the check by a table of mirrors is the check by `mirrorOf`, since both agree on the states of the
+-- `count_check::check_tables` meets its contract: the check by a table of mirrors is the check by `mirror_of`, since both agree on the states of the
 -- configuration (`check-by`). `check_counts` asks that the table holds 256 numbers, at least one for each state, and that each is below the number of states
 -- (`mirrors-known`).
 use native.Mathlib.Omega.{arith}
 use borrow.Author.Rules.{rules}
 use Rattle.config.specs.Configuration.{states}
-use Rattle.quotes.specs.States.{mirrorOf}
-use Rattle.calibrator.specs.Record.{countsOf}
-use Rattle.count_check.specs.Inner.{tablesIn}
+use Rattle.quotes.specs.States.{mirror_of}
+use Rattle.calibrator.specs.Record.{counts_of}
+use Rattle.count_check.specs.Inner.{tables_in}
 use Rattle.count_check.proofs.Answers.{check-by, mirrors-known}
 use Rattle.count_check.proofs.check_tables.Statement.{statement}
 use Rattle.count_check.proofs.check_tables.Tie as tie
@@ -25,8 +25,8 @@ returns c =
     let at-state-count : tie.After-state-count = search in
     let at-start : tie.Start = search in
     let a = at-start.args in
-    let k = countsOf a.counters (tablesIn a.imaged a.stay.now a.moved.now a.move-half-ticks.now a.sb.now a.mb.now a.tb.now) in
-    check-by at-state-count.state-count.result (states a.config) at-mirrors-of.mirrors-of.result (mirrorOf a.config.imbalance_buckets) k
+    let k = counts_of a.counters (tables_in a.imaged a.stay.now a.moved.now a.move-half-ticks.now a.sb.now a.mb.now a.tb.now) in
+    check-by at-state-count.state-count.result (states a.config) at-mirrors-of.mirrors-of.result (mirror_of a.config.imbalance_buckets) k
     c.check-counts.result at-state-count.state-count.ensures at-mirrors-of.mirrors-of.ensures c.check-counts.ensures
 
 pub check-tables-spec : {M : Type 1} → statement M

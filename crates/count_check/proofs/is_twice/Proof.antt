@@ -1,4 +1,4 @@
--- `count_check::is_twice` meets its contract: two sums, each cut off at `sumCap`, make twice the pairs exactly where the whole sums do, as twice the pairs
+-- `count_check::is_twice` meets its contract: two sums, each cut off at `sum_cap`, make twice the pairs exactly where the whole sums do, as twice the pairs
 -- is below that (`twice-is`). No loop here; the sums are `sum_capped`.
 use mathlib.Core.List.{[]}
 use borrow.Author.Rules.{rules}

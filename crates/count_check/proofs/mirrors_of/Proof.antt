@@ -6,7 +6,7 @@ use mathlib.Core.Path.{◌≡◌, refl, ◌∙◌}
 use native.Mathlib.Omega.{arith}
 use lib.ListN.{length-set, length, get_or}
 use borrow.Author.Count.{falls, below_none}
-use Rattle.quotes.specs.States.{mirrorOf}
+use Rattle.quotes.specs.States.{mirror_of}
 use Rattle.quotes.specs.Inner.{HasLevel}
 use Rattle.quotes.proofs.Levels.{level-start}
 use Rattle.basics.proofs.Stores.{filled-by}
@@ -14,7 +14,7 @@ use Rattle.count_check.proofs.mirrors_of.Statement.{statement}
 use Rattle.count_check.proofs.mirrors_of.Tie as tie
 
 abbrev invariant-loop : tie.invariant-loop
-invariant-loop n w r₀ level₀ i₀ r level i = (length r ≡ 256) × ((k : ℕ) → k < i → get_or r k 0 ≡ mirrorOf w k) × HasLevel w level i
+invariant-loop n w r₀ level₀ i₀ r level i = (length r ≡ 256) × ((k : ℕ) → k < i → get_or r k 0 ≡ mirror_of w k) × HasLevel w level i
 
 abbrev decreases-loop : tie.decreases-loop
 decreases-loop n w r₀ level₀ i₀ r level i = n - i
@@ -50,7 +50,7 @@ loop-again c =
     let l = in-loop.before.loop in
     let v = c.before.mirror-in.result in (
       length-set l.r l.i v ∙ l.inv.0,
-      filled-by (mirrorOf at-start.args.config.imbalance_buckets) l.r l.i v 0 (omega (arith, inside in-loop, l.inv.0))
+      filled-by (mirror_of at-start.args.config.imbalance_buckets) l.r l.i v 0 (omega (arith, inside in-loop, l.inv.0))
           c.before.mirror-in.ensures l.inv.1,
       c.level-after.ensures,
     )

@@ -12,7 +12,7 @@ use borrow.Author.Tests.{not-true, not-false}
 use Rattle.basics.specs.Lists.{all_from}
 use Rattle.basics.proofs.Tests.{fits-mul}
 use Rattle.tally.specs.Entries.{Tables, tables}
-use Rattle.count_check.specs.Mirrors.{cellMirrored}
+use Rattle.count_check.specs.Mirrors.{cell_mirrored}
 use Rattle.count_check.specs.Inner.{cells_in}
 use Rattle.count_check.proofs.Answers.{cell-is}
 use Rattle.count_check.proofs.Walks.{whole, all-step, all-stop, all_end}
@@ -21,7 +21,7 @@ use Rattle.count_check.proofs.row_mirrored.Tie as tie
 
 abbrev cell : ℕ → List ℕ → List ℕ → List ℕ → List ℕ → List ℕ → Bool → ℕ → ℕ → Bool
 cell n mirrors stay moved sb mb imaged i =
-    cellMirrored n (λ k. get_or mirrors k 0) (tables (cells_in imaged stay sb) (cells_in imaged moved mb) []) i
+    cell_mirrored n (λ k. get_or mirrors k 0) (tables (cells_in imaged stay sb) (cells_in imaged moved mb) []) i
 
 abbrev invariant-loop : tie.invariant-loop
 invariant-loop n mirrors stay moved sb mb imaged i cells m j₀ j =

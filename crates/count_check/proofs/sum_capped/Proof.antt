@@ -1,4 +1,4 @@
--- `count_check::sum_capped` meets its contract: a sum of n cells, cut off at `sumCap`. Loop over i, measure n − i; invariant: the sum so far, at most the cap,
+-- `count_check::sum_capped` meets its contract: a sum of n cells, cut off at `sum_cap`. Loop over i, measure n − i; invariant: the sum so far, at most the cap,
 -- and the cells from i on make, cut off, the sum of all cells, cut off. `sum_step` adds one cell; at the end no cell is left (`sum-end`).
 use Prim.Native.Nat.{◌+◌, ◌-◌, ◌≤◌, min}
 use mathlib.Core.Path.{◌≡◌, ap, ◌∙◌}
@@ -6,7 +6,7 @@ use native.Mathlib.Omega.{arith}
 use lib.ListN.{drop}
 use borrow.Author.Count.{falls}
 use Rattle.basics.specs.Lists.{sum}
-use Rattle.count_check.specs.Inner.{cells_in, sumCap}
+use Rattle.count_check.specs.Inner.{cells_in, sum_cap}
 use Rattle.count_check.proofs.Sums.{sum_step, sum-end}
 use Rattle.count_check.proofs.Readings.{cells-length}
 use Rattle.count_check.proofs.sum_capped.Statement.{statement}
@@ -14,13 +14,13 @@ use Rattle.count_check.proofs.sum_capped.Tie as tie
 
 abbrev invariant-loop : tie.invariant-loop
 invariant-loop t b imaged n a₀ i₀ a i =
-    (a ≤ sumCap) × (min sumCap (a + sum (drop i (cells_in imaged t b))) ≡ min sumCap (sum (cells_in imaged t b)))
+    (a ≤ sum_cap) × (min sum_cap (a + sum (drop i (cells_in imaged t b))) ≡ min sum_cap (sum (cells_in imaged t b)))
 
 abbrev decreases-loop : tie.decreases-loop
 decreases-loop t b imaged n a₀ i₀ a i = n - i
 
 loop-holds : tie.Need-loop-init invariant-loop decreases-loop
-loop-holds c = (omega arith, ap (min sumCap) (omega arith))
+loop-holds c = (omega arith, ap (min sum_cap) (omega arith))
 
 cell-in-requires : tie.Need-cell-in-requires invariant-loop decreases-loop
 cell-in-requires c κs =

@@ -9,8 +9,8 @@ use lib.IntN.{pos}
 use lib.ListN.{get_or, drop}
 use borrow.Author.Count.{falls}
 use Rattle.basics.specs.Lists.{any}
-use Rattle.tally.specs.Entries.{overTotal}
-use Rattle.count_check.specs.Inner.{totalsIn}
+use Rattle.tally.specs.Entries.{over_total}
+use Rattle.count_check.specs.Inner.{totals_in}
 use Rattle.count_check.proofs.Totals.{over-is}
 use Rattle.count_check.proofs.Walks.{any_step, any-stop, any-end}
 use Rattle.count_check.proofs.Readings.{totals-length}
@@ -18,7 +18,7 @@ use Rattle.count_check.proofs.totals_over.Statement.{statement}
 use Rattle.count_check.proofs.totals_over.Tie as tie
 
 abbrev invariant-loop : tie.invariant-loop
-invariant-loop t b imaged n i₀ i = any overTotal (totalsIn imaged t b) ≡ any overTotal (drop i (totalsIn imaged t b))
+invariant-loop t b imaged n i₀ i = any over_total (totals_in imaged t b) ≡ any over_total (drop i (totals_in imaged t b))
 
 abbrev decreases-loop : tie.decreases-loop
 decreases-loop t b imaged n i₀ i = n - i
@@ -28,7 +28,7 @@ total-in-requires c κs = (c.before.before.before.requires, c.loop-test.true)
 
 -- what a turn's test of the word says of its total
 over : (c : tie.After-is-within-word invariant-loop decreases-loop) → let at-start : tie.Start invariant-loop decreases-loop = search in let a = at-start.args in
-    overTotal (get_or (totalsIn a.imaged a.t.now a.b.now) c.before.before.before.loop.i (pos 0)) ≡ not c.is-within-word.result
+    over_total (get_or (totals_in a.imaged a.t.now a.b.now) c.before.before.before.loop.i (pos 0)) ≡ not c.is-within-word.result
 over c = over-is _ _ _ c.before.total-in.ensures c.is-within-word.ensures
 
 returns : tie.Need-returns invariant-loop decreases-loop
@@ -37,7 +37,7 @@ returns c =
     let at-start : tie.Start invariant-loop decreases-loop = search in
     let a = at-start.args in
     sym (at-loop.loop.inv
-    ∙ any-stop overTotal (pos 0) _ a.n (totals-length _ _ a.t.now a.b.now at-start.pre) at-loop.loop.i
+    ∙ any-stop over_total (pos 0) _ a.n (totals-length _ _ a.t.now a.b.now at-start.pre) at-loop.loop.i
     c.before.before.before.loop-test.true (over c.before ∙ c.if1.true))
 
 loop-less : tie.Need-loop-smaller invariant-loop decreases-loop
@@ -52,7 +52,7 @@ loop-again c =
     let at-start : tie.Start invariant-loop decreases-loop = search in
     let a = at-start.args in
     at-loop.loop.inv
-    ∙ any_step overTotal (pos 0) _ a.n (totals-length _ _ a.t.now a.b.now at-start.pre) at-loop.loop.i
+    ∙ any_step over_total (pos 0) _ a.n (totals-length _ _ a.t.now a.b.now at-start.pre) at-loop.loop.i
     c.before.before.before.loop-test.true (over c.before ∙ c.if1.false)
 
 returns-2 : tie.Need-returns-2 invariant-loop decreases-loop
@@ -60,7 +60,7 @@ returns-2 c =
     let at-start : tie.Start invariant-loop decreases-loop = search in
     let a = at-start.args in
     sym (c.before.loop.invariant
-    ∙ any-end overTotal (pos 0) _ a.n (totals-length _ _ a.t.now a.b.now at-start.pre) c.before.loop.i c.loop-test.false)
+    ∙ any-end over_total (pos 0) _ a.n (totals-length _ _ a.t.now a.b.now at-start.pre) c.before.loop.i c.loop-test.false)
 
 pub totals-over-spec : {M : Type 1} → statement M
 totals-over-spec =

@@ -16,8 +16,8 @@ invariant-loop buffer₀ at₀ buffer at = (at ≤ length buffer) × (length buf
 abbrev decreases-loop : tie.decreases-loop
 decreases-loop buffer₀ at₀ buffer at = length buffer - at
 
-add_at : tie.Need-overflow-add-at invariant-loop decreases-loop
-add_at c =
+add_at_lem : tie.Need-overflow-add-at invariant-loop decreases-loop
+add_at_lem c =
     let at-read-some : tie.After-read-some invariant-loop decreases-loop = search in
     let at-loop : tie.At-loop invariant-loop decreases-loop = search in
     let l = at-loop.loop in
@@ -49,7 +49,7 @@ read-input-spec =
     (λ c. search rules)
     (λ c. search rules)
     (λ c. search rules)
-    add_at
+    add_at_lem
     (λ c. search rules)
     loop-again
     (λ c. search rules)

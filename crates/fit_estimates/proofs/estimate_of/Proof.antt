@@ -5,7 +5,7 @@ use mathlib.Core.Path.{◌∙◌}
 use native.Mathlib.Nat.{mul-le-mul}
 use native.Mathlib.Omega.{arith}
 use borrow.Author.Rules.{rules}
-use Rattle.model.specs.Status.{statusNumber}
+use Rattle.model.specs.Status.{status_number}
 use Rattle.fit_estimates.specs.Estimates.{judged}
 use Rattle.fit_estimates.proofs.Marked.{estimate-made}
 use Rattle.fit_estimates.proofs.estimate_of.Statement.{statement}
@@ -21,7 +21,7 @@ returns c m e =
     let a = at-start.args in
     estimate-made a.tick a.bucket a.spread a.observed m a.s c.before.before.adjust2.ensures at-adjust.adjust.ensures
     (c.before.share-of.ensures m e)
-    (c.judge-status.ensures m e ∙ (λ k. statusNumber (judged m (c.before.before.before.half-spread.ensures k) (at-adjust.adjust.ensures k))))
+    (c.judge-status.ensures m e ∙ (λ k. status_number (judged m (c.before.before.before.half-spread.ensures k) (at-adjust.adjust.ensures k))))
 
 pub estimate-of-spec : {M : Type 1} → statement M
 estimate-of-spec =

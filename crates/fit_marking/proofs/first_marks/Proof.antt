@@ -4,12 +4,12 @@
 use Prim.Native.Nat.{◌≤◌, ◌-◌}
 use native.Mathlib.Omega.{arith}
 use Rattle.basics.proofs.Stores.{Stored, stored-none, stored_more}
-use Rattle.fit_marking.specs.Inner.{firstMark}
+use Rattle.fit_marking.specs.Inner.{first_mark}
 use Rattle.fit_marking.proofs.first_marks.Statement.{statement}
 use Rattle.fit_marking.proofs.first_marks.Tie as tie
 
 abbrev invariant-loop : tie.invariant-loop
-invariant-loop stay moved n least marks₀ x₀ marks x = (x ≤ n) × Stored 0 (firstMark n least stay moved) x marks₀ marks
+invariant-loop stay moved n least marks₀ x₀ marks x = (x ≤ n) × Stored 0 (first_mark n least stay moved) x marks₀ marks
 
 abbrev decreases-loop : tie.decreases-loop
 decreases-loop stay moved n least marks₀ x₀ marks x = n - x
@@ -34,7 +34,7 @@ loop-again c =
     let a = at-start.args in
     let l = c.before.before.loop in (
       omega arith,
-      stored_more 0 (firstMark a.n a.least a.stay.now a.moved.now) l.x c.first-mark.result a.marks.now l.marks l.invariant.1
+      stored_more 0 (first_mark a.n a.least a.stay.now a.moved.now) l.x c.first-mark.result a.marks.now l.marks l.invariant.1
           (omega (arith, l.invariant.1.same_length)) c.first-mark.ensures,
     )
 

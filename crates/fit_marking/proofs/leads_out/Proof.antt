@@ -2,13 +2,13 @@
 -- first j states is led to (`Searching`). The measure is n less j. The ways out: such a state (`searching-found`), and the end of the row (`searching-all`).
 use Prim.Native.Nat.{◌-◌}
 use native.Mathlib.Omega.{arith}
-use Rattle.fit_marking.specs.Inner.{leadsTo}
+use Rattle.fit_marking.specs.Inner.{leads_to}
 use Rattle.fit_marking.proofs.Below.{Searching, searching-none, searching-more, searching-found, searching-all}
 use Rattle.fit_marking.proofs.leads_out.Statement.{statement}
 use Rattle.fit_marking.proofs.leads_out.Tie as tie
 
 abbrev invariant-loop : tie.invariant-loop
-invariant-loop stay marks n x start j₀ j = Searching n (leadsTo n stay marks x) j
+invariant-loop stay marks n x start j₀ j = Searching n (leads_to n stay marks x) j
 
 abbrev decreases-loop : tie.decreases-loop
 decreases-loop stay marks n x start j₀ j = n - j

@@ -8,7 +8,7 @@ use lib.ListN.{length}
 use Rattle.fit_marking.specs.Marks.{cells_of}
 use Rattle.fit_linear.specs.Inner.{Becomes}
 use Rattle.fit_series.specs.Inner.{width}
-use Rattle.fit_system.specs.Rows.{systemOf, total_of}
+use Rattle.fit_system.specs.Rows.{system_of, total_of}
 use Rattle.fit_system.specs.Inner.{Marks}
 use Rattle.fit_system.proofs.Filling.{rows_none, rows_more}
 use Rattle.fit_system.proofs.fill_system.Statement.{statement}
@@ -17,7 +17,7 @@ use Rattle.fit_system.proofs.fill_system.Tie as tie
 abbrev invariant-loop : tie.invariant-loop
 invariant-loop stay moved totals n marks scratch₀ x₀ scratch x =
     (x ≤ n) × (length scratch ≡ length scratch₀)
-    × ((least : ℕ) → Marks (cells_of n least stay moved) marks → Becomes x (width n) (systemOf (cells_of n least stay moved) (total_of totals)) scratch₀ scratch)
+    × ((least : ℕ) → Marks (cells_of n least stay moved) marks → Becomes x (width n) (system_of (cells_of n least stay moved) (total_of totals)) scratch₀ scratch)
 
 abbrev decreases-loop : tie.decreases-loop
 decreases-loop stay moved totals n marks scratch₀ x₀ scratch x = n - x

@@ -6,7 +6,7 @@ use Prim.Native.Nat.{ℕ}
 use native.Mathlib.Omega.{arith}
 use lib.ListN.{length}
 use Rattle.basics.specs.Lists.{same_words}
-use Rattle.image_layout.specs.Layout.{newest, headerIn}
+use Rattle.image_layout.specs.Layout.{newest, header_in}
 use Rattle.image_layout.proofs.Parts.{length-header}
 use Rattle.image_layout.proofs.Headers.{laid-out-is}
 use borrow.Author.Rules.{rules}
@@ -31,7 +31,7 @@ returns c =
     let p = at-start.pre in
     let h = at-header-words.header-words.result in
     laid-out-is b a.config a.rec h c.before.same-words.result c.image-length.result p.2 p.3 at-header-words.header-words.ensures
-    (c.before.same-words.ensures ∙ ap (λ (n : ℕ). same_words (headerIn n b) h) (long at-header-words)) c.image-length.ensures
+    (c.before.same-words.ensures ∙ ap (λ (n : ℕ). same_words (header_in n b) h) (long at-header-words)) c.image-length.ensures
 
 pub is-laid-out-spec : {M : Type 1} → statement M
 is-laid-out-spec =

@@ -6,13 +6,13 @@ use Prim.Native.Nat.{◌-◌, ◌≤◌}
 use native.Mathlib.Omega.{arith}
 use lib.ListN.{length}
 use Rattle.basics.specs.Lists.{same_words}
-use Rattle.image_layout.specs.Layout.{headerIn}
-use Rattle.image_layout.proofs.Headers.{sameFrom, same_start, same_differs, same-agrees, same_end}
+use Rattle.image_layout.specs.Layout.{header_in}
+use Rattle.image_layout.proofs.Headers.{same_from, same_start, same_differs, same-agrees, same_end}
 use Rattle.image_layout.proofs.same_words.Statement.{statement}
 use Rattle.image_layout.proofs.same_words.Tie as tie
 
 abbrev invariant-loop : tie.invariant-loop
-invariant-loop b h i₀ i = (i ≤ length h) × (same_words (headerIn (length h) b) h ≡ sameFrom b h i)
+invariant-loop b h i₀ i = (i ≤ length h) × (same_words (header_in (length h) b) h ≡ same_from b h i)
 
 abbrev decreases-loop : tie.decreases-loop
 decreases-loop b h i₀ i = length h - i

@@ -4,9 +4,9 @@
 use mathlib.Core.Path.{ap, ◌∙◌}
 use native.Mathlib.Omega.{arith}
 use borrow.Author.Rules.{rules}
-use Rattle.refusals.specs.Refusals.{firstFrom}
+use Rattle.refusals.specs.Refusals.{first_from}
 use Rattle.config.specs.Inner.{Valid}
-use Rattle.model_check.specs.Check.{checkRow}
+use Rattle.model_check.specs.Check.{check_row}
 use Rattle.model_check.proofs.Judged.{config-bad, config-good, length-bad, length-good, next-judges}
 use Rattle.model_check.proofs.check_model.Statement.{statement}
 use Rattle.model_check.proofs.check_model.Tie as tie
@@ -38,7 +38,7 @@ returns-3 c =
     let a = at-else1.before.before.before.args in
     let count = c.before.before.state-count.ensures in
     c.check-rows.ensures
-    ∙ ap (firstFrom (checkRow a.config a.model.now) 0) count
+    ∙ ap (first_from (check_row a.config a.model.now) 0) count
     ∙ next-judges a.config a.model.now _ at-else1.before.is-valid.ensures at-else1.if1.left count c.before.if2.false
 
 pub check-model-spec : {M : Type 1} → statement M

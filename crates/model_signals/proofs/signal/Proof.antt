@@ -8,7 +8,7 @@ use borrow.Author.Rules.{rules}
 use Rattle.config.specs.Inner.{Valid}
 use Rattle.quotes.proofs.Known.{fine-known}
 use Rattle.model_check.proofs.Judged.{config-bad, config-good, length-bad, length-good, next-judges}
-use Rattle.model_signals.specs.Signal.{signalRefusal}
+use Rattle.model_signals.specs.Signal.{signal_refusal}
 use Rattle.model_signals.proofs.Answers.{signal-refused, signal-sent}
 use Rattle.model_signals.proofs.signal.Statement.{statement}
 use Rattle.model_signals.proofs.signal.Tie as tie
@@ -30,7 +30,7 @@ returns-2 c =
 
 -- what the quote's check answers is the first refusal of all
 judged : (c : tie.After-check-quote) → let at-start : tie.Start = search in let a = at-start.args in
-    c.check-quote.result ≡ signalRefusal a.config a.model.now a.quote
+    c.check-quote.result ≡ signal_refusal a.config a.model.now a.quote
 judged c =
     let at-else1 : tie.Else1 = search in
     let a = at-else1.before.before.before.args in

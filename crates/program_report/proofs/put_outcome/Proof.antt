@@ -1,5 +1,5 @@
 -- `program_report::put_outcome` meets its contract. The ways out: a refusal, one line of at most 29 bytes (`loosely`); a fit, the counters in at most 138 bytes
--- and behind them the fit in at most 4,212 (`both`), together the 4,350 of `mostBytes`. Both are `outcomeLines` of the answer that the match found. No loop.
+-- and behind them the fit in at most 4,212 (`both`), together the 4,350 of `most_bytes`. Both are `outcome_lines` of the answer that the match found. No loop.
 use borrow.Author.Rules.{rules}
 use native.Mathlib.Omega.{arith}
 use Rattle.program_lines.proofs.Within.{loosely, both}

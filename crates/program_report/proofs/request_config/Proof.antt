@@ -1,4 +1,4 @@
--- `program_report::request_config` meets its contract: the numbers of line 1, as a configuration's words, are given to `config_of`, which promises `configOf`.
+-- `program_report::request_config` meets its contract: the numbers of line 1, as a configuration's words, are given to `config_of`, which promises `config_of`.
 -- No loop.
 use borrow.Author.Rules.{rules}
 use Rattle.program_report.proofs.request_config.Statement.{statement}

@@ -1,4 +1,4 @@
--- `refusals::check_number` meets its contract: in each arm of the match the check is known, and `checkNumber` of it is 0 or what `number_of` ensures.
+-- `refusals::check_number` meets its contract: in each arm of the match the check is known, and `check_number` of it is 0 or what `number_of` ensures.
 use borrow.Author.Rules.{rules}
 use Rattle.refusals.proofs.check_number.Statement.{statement}
 use Rattle.refusals.proofs.check_number.Tie as tie

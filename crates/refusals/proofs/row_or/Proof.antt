@@ -1,4 +1,4 @@
--- `refusals::row_or` meets its contract: where the refusal is 13 its row is the answer; of any other, known by its tag, `rowOr` is the row given (`kept` of
+-- `refusals::row_or` meets its contract: where the refusal is 13 its row is the answer; of any other, known by its tag, `row_or` is the row given (`kept` of
 -- its case).
 use mathlib.Core.Path.{sym}
 use borrow.Author.Rules.{rules}

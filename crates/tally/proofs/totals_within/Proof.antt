@@ -3,7 +3,7 @@
 use mathlib.Core.Path.{ap, ◌∙◌}
 use mathlib.Core.Bool.{not}
 use Rattle.tally.specs.Totals.{change}
-use Rattle.tally.specs.Inner.{totalsOver}
+use Rattle.tally.specs.Inner.{totals_over}
 use Rattle.tally.proofs.Touched.{totals-same, totals-other}
 use Rattle.tally.proofs.Sums.{change-neg}
 use borrow.Author.Rules.{rules}
@@ -15,7 +15,7 @@ returns c =
     let at-start : tie.Start = search in
     let a = at-start.args in
     let d = change a.from a.to in
-    c.is-within-at.ensures ∙ totals-same a.t.now d a.a at-start.pre.0 ∙ ap (λ z. not (totalsOver a.t.now a.a z d)) c.before.if1.true
+    c.is-within-at.ensures ∙ totals-same a.t.now d a.a at-start.pre.0 ∙ ap (λ z. not (totals_over a.t.now a.a z d)) c.before.if1.true
 
 returns-2 : tie.Need-returns-2
 returns-2 c =

@@ -1,12 +1,12 @@
 -- `calibrator::inner::check_table_lengths` meets its contract: 1 for a configuration that is not valid, else 7 for tables of wrong lengths, else nothing. The
--- first way out rewrites `checkTableLengths` by what `is_valid` ensures; the other two by what the calls up to the second test ensure (`judged`) and by that
+-- first way out rewrites `check_table_lengths` by what `is_valid` ensures; the other two by what the calls up to the second test ensure (`judged`) and by that
 -- test. No loop. `state_count` and `wrong_lengths` may be called since the configuration is valid there, with at most 256 states (`valid-known`).
 use mathlib.Core.Path.{◌≡◌, sym, ◌∙◌}
 use native.Mathlib.Omega.{arith}
 use borrow.Author.Tests.{not-true, not-false}
-use Rattle.refusals.specs.Refusals.{refuseIf}
+use Rattle.refusals.specs.Refusals.{refuse_if}
 use Rattle.config.proofs.Known.{valid-known}
-use Rattle.calibrator.specs.Observe.{checkTableLengths}
+use Rattle.calibrator.specs.Observe.{check_table_lengths}
 use Rattle.calibrator.proofs.Lengths.{lengths-judged}
 use borrow.Author.Rules.{rules}
 use Rattle.calibrator.proofs.inner.check_table_lengths.Statement.{statement}
@@ -25,7 +25,7 @@ wrong-lengths-requires c κs =
 
 -- what the calls up to the second test ensure
 judged : (c : tie.After-wrong-lengths) → let at-start : tie.Start = search in let a = at-start.args in
-    checkTableLengths a.config a.stay a.moved a.move-half-ticks ≡ refuseIf c.wrong-lengths.result 7
+    check_table_lengths a.config a.stay a.moved a.move-half-ticks ≡ refuse_if c.wrong-lengths.result 7
 judged c =
     let at-else1 : tie.Else1 = search in
     let at-is-valid : tie.After-is-valid = search in

@@ -1,5 +1,5 @@
 -- `calibrator::inner::first_quote` meets its contract: what `check_quote` refuses is the answer and the record stays, else the quote becomes the last quote and
--- the counters stay. Each of the two ways out rewrites `pickDone` by `check_quote`'s answer. No loop. The tick is at least 1 by what the contract requires.
+-- the counters stay. Each of the two ways out rewrites `pick_done` by `check_quote`'s answer. No loop. The tick is at least 1 by what the contract requires.
 use borrow.Author.Rules.{rules}
 use Rattle.calibrator.proofs.inner.first_quote.Statement.{statement}
 use Rattle.calibrator.proofs.inner.first_quote.Tie as tie

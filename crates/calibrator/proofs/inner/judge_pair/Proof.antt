@@ -1,10 +1,10 @@
 -- `calibrator::inner::judge_pair` meets its contract: 8 where the last quote is itself refused, else what refuses the new quote, else 5 for an earlier time,
--- else nothing. Each way out rewrites `judgePair` by what `check_quote` ensures of the one quote or of both (`judged`), and by the test of the times. No loop.
+-- else nothing. Each way out rewrites `judge_pair` by what `check_quote` ensures of the one quote or of both (`judged`), and by the test of the times. No loop.
 use mathlib.Core.Path.{◌≡◌}
 use borrow.Author.Tests.{lt-ltb, le-ltb}
-use Rattle.refusals.specs.Refusals.{refuseIf}
+use Rattle.refusals.specs.Refusals.{refuse_if}
 use Rattle.calibrator.specs.Observe.{earlier}
-use Rattle.calibrator.specs.Inner.{judgePair}
+use Rattle.calibrator.specs.Inner.{judge_pair}
 use Rattle.calibrator.specs.declared.Previous.TheVariants.{Quoted}
 use Rattle.calibrator.proofs.Ways.{times-judged}
 use borrow.Author.Rules.{rules}
@@ -26,7 +26,7 @@ returns-2 c =
 
 -- both quotes are fine, up to the test of the times
 judged : (c : tie.After-enum-told3) → let at-start : tie.Start = search in let a = at-start.args in
-    judgePair a.config a.last a.quote ≡ refuseIf (earlier (Quoted a.last) a.quote) 5
+    judge_pair a.config a.last a.quote ≡ refuse_if (earlier (Quoted a.last) a.quote) 5
 judged c =
     let at-check-quote2 : tie.After-check-quote2 = search in
     let at-enum-told : tie.After-enum-told = search in

@@ -1,5 +1,5 @@
 -- `calibrator::inner::next_quote` meets its contract: what `neighbours` finds decides, a skip goes to `skip_pair` and a pair to `count_pair`. Each way out is
--- what the callee ensures, with `neighboursOf` of the two quotes in place of what was found (`way-found`). No loop. `count_pair` asks for states and mids
+-- what the callee ensures, with `neighbours_of` of the two quotes in place of what was found (`way-found`). No loop. `count_pair` asks for states and mids
 -- within bounds, which a pair that two accepted quotes make has (`counted-known`).
 use mathlib.Core.Path.{sym, ◌∙◌}
 use Rattle.calibrator.proofs.Ways.{counted-known, way-found}

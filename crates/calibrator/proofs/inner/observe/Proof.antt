@@ -5,7 +5,7 @@
 use mathlib.Core.Path.{◌≡◌, sym, ◌∙◌}
 use lib.ListN.{length}
 use Rattle.refusals.specs.declared.Check.TheVariants.{Fine}
-use Rattle.calibrator.specs.Observe.{checkTableLengths}
+use Rattle.calibrator.specs.Observe.{check_table_lengths}
 use Rattle.calibrator.proofs.Lengths.{tables-known}
 use Rattle.calibrator.proofs.Ways.{pair-known, way-lengths, way-first, way-judged, way_next}
 use borrow.Author.Rules.{rules}
@@ -22,7 +22,7 @@ returns c =
 
 -- the configuration is valid and the tables have its lengths
 fine : (c : tie.After-enum-told) → let at-start : tie.Start = search in let a = at-start.args in
-    checkTableLengths a.config (length a.stay.now) (length a.moved.now) (length a.move-half-ticks.now) ≡ Fine
+    check_table_lengths a.config (length a.stay.now) (length a.moved.now) (length a.move-half-ticks.now) ≡ Fine
 fine c = sym c.before.before.check-table-lengths.ensures ∙ c.enum_told.given.1
 
 first-quote-requires : tie.Need-first-quote-requires

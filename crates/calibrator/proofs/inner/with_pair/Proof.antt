@@ -1,4 +1,4 @@
--- `calibrator::inner::with_pair` meets its contract: one pair more, and the larger of the largest change and this pair's, which is `addPair` by what `larger`
+-- `calibrator::inner::with_pair` meets its contract: one pair more, and the larger of the largest change and this pair's, which is `add_pair` by what `larger`
 -- and `distance` ensure. The sum fits a word, as the counter is below 2^52.
 use borrow.Author.Rules.{rules}
 use Rattle.calibrator.proofs.inner.with_pair.Statement.{statement}

@@ -1,5 +1,5 @@
--- `calibrator::inner::with_skip` meets its contract: one more in the counter of the given kind. In each arm of the match the kind is known: so `skipCount` in
--- the contract is that arm's counter, below 2^52 and thus the sum fits a word, and `addSkip` is the record that the arm leaves.
+-- `calibrator::inner::with_skip` meets its contract: one more in the counter of the given kind. In each arm of the match the kind is known: so `skip_count` in
+-- the contract is that arm's counter, below 2^52 and thus the sum fits a word, and `add_skip` is the record that the arm leaves.
 use native.Mathlib.Omega.{arith}
 use borrow.Author.Rules.{rules}
 use Rattle.calibrator.proofs.inner.with_skip.Statement.{statement}

@@ -1,4 +1,4 @@
--- `calibrator::inner::wrong_lengths` meets its contract: three comparisons joined as in `wrongLengths`. N × N fits a word, as N is at most 256 (`fits-mul`).
+-- `calibrator::inner::wrong_lengths` meets its contract: three comparisons joined as in `wrong_lengths`. N × N fits a word, as N is at most 256 (`fits-mul`).
 use Rattle.basics.proofs.Tests.{fits-mul}
 use borrow.Author.Rules.{rules}
 use Rattle.calibrator.proofs.inner.wrong_lengths.Statement.{statement}

@@ -1,4 +1,4 @@
--- `config::MicroPriceConfig::validate` meets its contract: `checkConfig` rewritten by what `is_valid` ensures and by the test is fine, or refusal 1.
+-- `config::MicroPriceConfig::validate` meets its contract: `check_config` rewritten by what `is_valid` ensures and by the test is fine, or refusal 1.
 use borrow.Author.Rules.{rules}
 use Rattle.config.proofs.MicroPriceConfig.validate.Statement.{statement}
 use Rattle.config.proofs.MicroPriceConfig.validate.Tie as tie

@@ -1,5 +1,5 @@
 -- `config::inner::config_of` meets its contract: the words are read one by one, which the test on the length allows, and given to the constructor and the two
--- setters, whose contracts are the definition `configOf`, one in the other.
+-- setters, whose contracts are the definition `config_of`, one in the other.
 use native.Mathlib.Omega.{arith}
 use borrow.Author.Tests.{eqb-true}
 use borrow.Author.Rules.{rules}

@@ -4,10 +4,10 @@
 use Prim.Native.Nat.{ℕ}
 use mathlib.Core.Path.{◌≡◌, sym, ap, ◌∙◌}
 use mathlib.Core.List.{List}
-use Rattle.refusals.specs.Refusals.{refuseIf}
+use Rattle.refusals.specs.Refusals.{refuse_if}
 use Rattle.calibrator.proofs.Lengths.{tables-known}
-use Rattle.recording.specs.Window.{windowOf}
-use Rattle.evening.specs.Evening.{checkLengths}
+use Rattle.recording.specs.Window.{window_of}
+use Rattle.evening.specs.Evening.{check_lengths}
 use Rattle.evening.proofs.Evenings.{last-judged}
 use borrow.Author.Rules.{rules}
 use Rattle.evening.proofs.inner.check_evening.Statement.{statement}
@@ -42,8 +42,8 @@ wrong-fit-lengths-requires c κs =
 
 -- the answer is that of the last test
 judged : (c : tie.After-wrong-fit-lengths) (w : List ℕ) (start end : ℕ) → let at-start : tie.Start = search in let a = at-start.args in
-    a.window ≡ windowOf w start end
-    → refuseIf c.wrong-fit-lengths.result 7 ≡ checkLengths a.config w start end a.stay a.moved a.move-half-ticks a.scratch a.model
+    a.window ≡ window_of w start end
+    → refuse_if c.wrong-fit-lengths.result 7 ≡ check_lengths a.config w start end a.stay a.moved a.move-half-ticks a.scratch a.model
 judged c w start end is =
     let at-check-table-lengths : tie.After-check-table-lengths = search in
     let at-enum-told : tie.After-enum-told = search in
@@ -56,10 +56,10 @@ judged c w start end is =
     c.wrong-fit-lengths.ensures
 
 returns-3 : tie.Need-returns-3
-returns-3 c w start end is = ap (λ b. refuseIf b 7) (sym c.if1.true) ∙ judged c.before w start end is
+returns-3 c w start end is = ap (λ b. refuse_if b 7) (sym c.if1.true) ∙ judged c.before w start end is
 
 returns-4 : tie.Need-returns-4
-returns-4 c w start end is = ap (λ b. refuseIf b 7) (sym c.if1.false) ∙ judged c.before w start end is
+returns-4 c w start end is = ap (λ b. refuse_if b 7) (sym c.if1.false) ∙ judged c.before w start end is
 
 pub check-evening-spec : {M : Type 1} → statement M
 check-evening-spec =

@@ -1,8 +1,8 @@
--- `evening::inner::count_and_fit` meets its contract. Its two ways out are the two cases of `countedBy`: a quote stopped the count, and `new` leaves a new
+-- `evening::inner::count_and_fit` meets its contract. Its two ways out are the two cases of `counted_by`: a quote stopped the count, and `new` leaves a new
 -- calibrator, as the tables still have their lengths (`counted-refused`); or all quotes were counted, and the counts are fitted
 -- (`counted-fitted`). No loop.
 use mathlib.Core.Path.{◌∙◌}
-use Rattle.calibrator.specs.Observe.{checkTableLengths}
+use Rattle.calibrator.specs.Observe.{check_table_lengths}
 use Rattle.evening.proofs.Counting.{counted-fitted, counted-refused}
 use borrow.Author.Rules.{rules}
 use Rattle.evening.proofs.inner.count_and_fit.Statement.{statement}
@@ -22,7 +22,7 @@ returns c =
     let at-slice-known : tie.After-slice-known = search in
     let at-start : tie.Start = search in
     let a = at-start.args in
-    let tables = (λ j. checkTableLengths a.config (at-stay.stay.given j) (at_moved.moved.given j) (at-move-half-ticks.move-half-ticks.given j))
+    let tables = (λ j. check_table_lengths a.config (at-stay.stay.given j) (at_moved.moved.given j) (at-move-half-ticks.move-half-ticks.given j))
     ∙ at-start.pre.0 in
     counted-refused a.config _ a.model.now a.scratch.now _ _ _ _ _ at-count-part.count-part.ensures at-observed.observed.given.1
     at_new.new.ensures tables

@@ -1,4 +1,4 @@
--- `fit::inner::check_fit` meets its contract: the refusals in the order of `fitRefusal`, 1 and 7 of `check_table_lengths`, 7 of scratch and the model table,
+-- `fit::inner::check_fit` meets its contract: the refusals in the order of `fit_refusal`, 1 and 7 of `check_table_lengths`, 7 of scratch and the model table,
 -- then 6, 9, 10 and 11. No loop. Three ways out, each by what the calls before it answered. Where `check_table_lengths` is fine, the configuration is valid and
 -- the tables have their lengths (`known`), as the callees ask.
 use mathlib.Core.Path.{◌≡◌, sym, ap, ◌∙◌}
@@ -6,7 +6,7 @@ use lib.ListN.{length}
 use Rattle.config.specs.Configuration.{states}
 use Rattle.config.specs.Inner.{Valid}
 use Rattle.calibrator.proofs.Lengths.{RightLengths, tables-known, lengths-known}
-use Rattle.fit.specs.Fit.{wrongFitLengths}
+use Rattle.fit.specs.Fit.{wrong_fit_lengths}
 use borrow.Author.Rules.{rules}
 use Rattle.fit.proofs.inner.check_fit.Statement.{statement}
 use Rattle.fit.proofs.inner.check_fit.Tie as tie
@@ -23,10 +23,10 @@ known c =
 
 -- whether those lengths are wrong is what `wrong_fit_lengths` says
 fit-lengths : (c : tie.After-wrong-fit-lengths) → let at-start : tie.Start = search in let a = at-start.args in
-    c.wrong-fit-lengths.result ≡ wrongFitLengths (states a.config) a.scratch a.model
+    c.wrong-fit-lengths.result ≡ wrong_fit_lengths (states a.config) a.scratch a.model
 fit-lengths c =
     let at-start : tie.Start = search in
-    c.wrong-fit-lengths.ensures ∙ ap (λ n. wrongFitLengths n at-start.args.scratch at-start.args.model) c.before.state-count.ensures
+    c.wrong-fit-lengths.ensures ∙ ap (λ n. wrong_fit_lengths n at-start.args.scratch at-start.args.model) c.before.state-count.ensures
 
 returns : tie.Need-returns
 returns c = rw (← c.before.before.check-table-lengths.ensures, c.enum-told2.given.1)

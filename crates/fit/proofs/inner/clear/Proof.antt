@@ -5,12 +5,12 @@ use mathlib.Core.Path.{refl}
 use native.Mathlib.Omega.{arith}
 use lib.ListN.{length, length-set}
 use Rattle.basics.proofs.Stores.{Stored, stored-none, stored_more, stored-all}
-use Rattle.floats.specs.Floats.{posZero}
+use Rattle.floats.specs.Floats.{pos_zero}
 use Rattle.fit.proofs.inner.clear.Statement.{statement}
 use Rattle.fit.proofs.inner.clear.Tie as tie
 
 abbrev invariant-loop : tie.invariant-loop
-invariant-loop scratch₀ i₀ scratch i = Stored posZero (λ k. posZero) i scratch₀ scratch
+invariant-loop scratch₀ i₀ scratch i = Stored pos_zero (λ k. pos_zero) i scratch₀ scratch
 
 abbrev decreases-loop : tie.decreases-loop
 decreases-loop scratch₀ i₀ scratch i = length scratch - i
@@ -18,7 +18,7 @@ decreases-loop scratch₀ i₀ scratch i = length scratch - i
 loop-again : tie.Need-loop-preserved invariant-loop decreases-loop
 loop-again c =
     let l = c.before.loop in
-    stored_more posZero (λ k. posZero) l.i posZero _ l.scratch l.invariant c.loop-test.true refl
+    stored_more pos_zero (λ k. pos_zero) l.i pos_zero _ l.scratch l.invariant c.loop-test.true refl
 
 pub clear_spec : {M : Type 1} → statement M
 clear_spec =
@@ -33,4 +33,4 @@ clear_spec =
     (λ c. simp length-set (omega arith))
     loop-again
     (λ c. c.before.loop.invariant.same_length)
-    (λ c. stored-all posZero posZero _ _ _ c.before.loop.invariant (omega arith)))
+    (λ c. stored-all pos_zero pos_zero _ _ _ c.before.loop.invariant (omega arith)))

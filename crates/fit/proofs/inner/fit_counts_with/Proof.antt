@@ -1,10 +1,10 @@
 -- `fit::inner::fit_counts_with` meets its contract: the refusals before the fit, then the fit of the tables with its mirrors, then scratch is cleared. No loop.
--- Two ways out: `check_fit` refuses, and nothing changes (`whole-refused`); else the fit ends as `fitOf` says, the table of mirrors agreeing with
--- `mirrorOf` (`whole`). Where `check_fit` is fine, all that the callees ask is known (`known`).
+-- Two ways out: `check_fit` refuses, and nothing changes (`whole-refused`); else the fit ends as `fit_of` says, the table of mirrors agreeing with
+-- `mirror_of` (`whole`). Where `check_fit` is fine, all that the callees ask is known (`known`).
 use mathlib.Core.Path.{sym, ap, ◌∙◌}
 use native.Mathlib.Omega.{arith}
 use lib.ListN.{length, replicate}
-use Rattle.floats.specs.Floats.{posZero}
+use Rattle.floats.specs.Floats.{pos_zero}
 use Rattle.calibrator.specs.Record.{memory}
 use Rattle.fit.proofs.Known.{Fittable, fit-known, exact-of, usable-of, scratch-of, whole-refused, whole}
 use borrow.Author.Rules.{rules}
@@ -54,7 +54,7 @@ returns-2 c =
     whole a.rounds a.moves a.config (memory a.rec a.stay.now a.moved.now a.move-half-ticks.now) a.model.now _ a.scratch.now _ _
     _ at-mirrors-of.mirrors-of.result at-state-count.state-count.ensures (sym at-check-fit.check-fit.ensures ∙ at-enum-told.enum_told.given.1)
     at-mirrors-of.mirrors-of.ensures at-fit-states.fit-states.ensures
-    (c.before.before.clear.ensures ∙ ap (λ k. replicate k posZero) at-scratch.scratch.given)
+    (c.before.before.clear.ensures ∙ ap (λ k. replicate k pos_zero) at-scratch.scratch.given)
 
 pub fit-counts-with-spec : {M : Type 1} → statement M
 fit-counts-with-spec =

@@ -4,7 +4,7 @@
 use mathlib.Core.Path.{sym, ◌∙◌}
 use native.Mathlib.Omega.{arith}
 use borrow.Author.Tests.{not-true, not-false}
-use Rattle.fit.specs.Inner.{givenIn}
+use Rattle.fit.specs.Inner.{given_in}
 use Rattle.fit.proofs.Ends.{marks-of, marked-used, ends-none}
 use borrow.Author.Rules.{rules}
 use Rattle.fit.proofs.inner.fit_states.Statement.{statement}
@@ -15,7 +15,7 @@ returns c =
     let at-mark-no-price-move : tie.After-mark-no-price-move = search in
     let at-start : tie.Start = search in
     let a = at-start.args in
-    let G = givenIn a.n a.buckets a.tick a.least a.stay.now a.moved.now a.move-half-ticks.now a.mirrors.now in
+    let G = given_in a.n a.buckets a.tick a.least a.stay.now a.moved.now a.move-half-ticks.now a.mirrors.now in
     let m = marks-of G.cells _ _ (search rules) at-mark-no-price-move.mark-no-price-move.ensures in
     let u = sym (marked-used G.cells _ m) ∙ sym c.before.has-calibrated.ensures ∙ not-true _ c.if1.true in
     ends-none a.rounds a.moves G a.model.now u
@@ -29,7 +29,7 @@ returns-2 c =
     let at-mark-no-price-move : tie.After-mark-no-price-move = search in
     let at-start : tie.Start = search in
     let a = at-start.args in
-    let G = givenIn a.n a.buckets a.tick a.least a.stay.now a.moved.now a.move-half-ticks.now a.mirrors.now in
+    let G = given_in a.n a.buckets a.tick a.least a.stay.now a.moved.now a.move-half-ticks.now a.mirrors.now in
     let m = marks-of G.cells _ _ (omega (arith, at-start.pre.0.few, at-marks2.marks2.given)) at-mark-no-price-move.mark-no-price-move.ensures in
     let u = sym (marked-used G.cells _ m) ∙ sym at-has-calibrated.has-calibrated.ensures ∙ not-false _ at-else1.if1.left in
     at-fit-marked.fit-marked.ensures a.least m u

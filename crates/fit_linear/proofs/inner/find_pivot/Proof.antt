@@ -1,5 +1,5 @@
 -- `fit_linear::inner::find_pivot` meets its contract: the row of the greatest size in column c, from the diagonal down. Invariant: of rows c to r − 1, `best`
--- is the row that `pivotRow` finds and `most` is its size (`Pivoting`). Measure: n − r. Row r is taken where it is as great (`pivoting-taken`), else the best
+-- is the row that `pivot_row` finds and `most` is its size (`Pivoting`). Measure: n − r. Row r is taken where it is as great (`pivoting-taken`), else the best
 -- stays (`pivoting-left`). At the end r is n. Each read lies in a row below n (`row_in`).
 use Prim.Native.Nat.{ℕ, ◌-◌, ◌+◌, ◌*◌, ◌<◌, ◌≤◌}
 use mathlib.Core.Path.{◌≡◌}

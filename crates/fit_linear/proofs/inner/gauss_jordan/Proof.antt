@@ -1,12 +1,12 @@
 -- `fit_linear::inner::gauss_jordan` meets its contract: one column after the other is solved. Invariant: the rows hold the matrix with its first c columns
--- solved (`Eliminated` of `columnsSolved`). Measure: n − c. A column that is solved is one more (`columns-more`). The ways out: a singular column makes the
+-- solved (`Eliminated` of `columns_solved`). Measure: n − c. A column that is solved is one more (`columns-more`). The ways out: a singular column makes the
 -- whole singular (`columns-singular`); where c is n, the invariant is the contract.
 use native.Mathlib.Omega.{arith}
 use Prim.Native.Nat.{◌≤◌, ◌-◌}
 use mathlib.Core.Path.{◌≡◌, refl}
 use lib.ListN.{length}
 use Rattle.fit_linear.specs.Arithmetic.{rounded}
-use Rattle.fit_linear.specs.Elimination.{columnsSolved}
+use Rattle.fit_linear.specs.Elimination.{columns_solved}
 use Rattle.fit_linear.specs.Inner.{rows_of, Eliminated}
 use Rattle.fit_linear.specs.declared.Solve.TheVariants.{Solved}
 use Rattle.fit_linear.proofs.Columns.{columns-none, columns-more, columns-singular}
@@ -14,7 +14,7 @@ use Rattle.fit_linear.proofs.inner.gauss_jordan.Statement.{statement}
 use Rattle.fit_linear.proofs.inner.gauss_jordan.Tie as tie
 
 abbrev invariant-loop : tie.invariant-loop
-invariant-loop rows₀ n w c₀ rows c = (c ≤ n) × (length rows ≡ length rows₀) × Eliminated n w (columnsSolved rounded n (rows_of w rows₀) c) rows₀ Solved rows
+invariant-loop rows₀ n w c₀ rows c = (c ≤ n) × (length rows ≡ length rows₀) × Eliminated n w (columns_solved rounded n (rows_of w rows₀) c) rows₀ Solved rows
 
 abbrev decreases-loop : tie.decreases-loop
 decreases-loop rows₀ n w c₀ rows c = n - c

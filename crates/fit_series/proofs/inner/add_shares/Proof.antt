@@ -6,8 +6,8 @@ use Prim.Native.Nat.{◌≤◌, ◌-◌}
 use mathlib.Core.Path.{◌≡◌, refl}
 use lib.ListN.{length}
 use Rattle.fit_linear.specs.Arithmetic.{rounded}
-use Rattle.fit_series.specs.Series.{shareAfter}
-use Rattle.fit_series.specs.Inner.{solvedF, solvedB, lastProduct, Shared}
+use Rattle.fit_series.specs.Series.{share_after}
+use Rattle.fit_series.specs.Inner.{solved_f, solved_b, last_product, Shared}
 use Rattle.fit_series.proofs.Rounds.{shares-none, shares-more}
 use Rattle.fit_series.proofs.inner.add_shares.Statement.{statement}
 use Rattle.fit_series.proofs.inner.add_shares.Tie as tie
@@ -16,7 +16,7 @@ abbrev invariant-loop : tie.invariant-loop
 invariant-loop s₀ n rounds done₀ s done =
     (done ≤ rounds)
     × (length s ≡ length s₀)
-    × Shared n done (shareAfter rounded n (solvedB n s₀) (solvedF n s₀) done) (lastProduct n (solvedB n s₀) (solvedF n s₀) done) s₀ s
+    × Shared n done (share_after rounded n (solved_b n s₀) (solved_f n s₀) done) (last_product n (solved_b n s₀) (solved_f n s₀) done) s₀ s
 
 abbrev decreases-loop : tie.decreases-loop
 decreases-loop s₀ n rounds done₀ s done = rounds - done

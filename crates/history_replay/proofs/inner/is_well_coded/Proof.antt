@@ -7,14 +7,14 @@ use native.Mathlib.Omega.{arith}
 use lib.ListN.{length}
 use Rattle.basics.specs.Lists.{all_from}
 use Rattle.count_check.proofs.Walks.{whole}
-use Rattle.history_replay.specs.Replay.{isCall}
+use Rattle.history_replay.specs.Replay.{is_call}
 use Rattle.history_replay.proofs.Coding.{coded-ragged, coded-count, coded-length, coded-stop, coded-step, coded-end}
 use Rattle.history_replay.proofs.inner.is_well_coded.Statement.{statement}
 use Rattle.history_replay.proofs.inner.is_well_coded.Tie as tie
 
 abbrev invariant-loop : tie.invariant-loop
 invariant-loop calls room answers k₀ k =
-    (length calls ≡ 6 * answers) × (all_from (isCall room calls) 0 answers ≡ all_from (isCall room calls) k (answers - k))
+    (length calls ≡ 6 * answers) × (all_from (is_call room calls) 0 answers ≡ all_from (is_call room calls) k (answers - k))
 
 abbrev decreases-loop : tie.decreases-loop
 decreases-loop calls room answers k₀ k = answers - k

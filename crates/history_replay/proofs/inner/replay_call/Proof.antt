@@ -4,7 +4,7 @@
 use Prim.Native.Nat.{◌+◌, ◌≤◌}
 use native.Mathlib.Omega.{arith}
 use lib.ListN.{length}
-use Rattle.history_replay.specs.Replay.{start_at, longAt, Site, site}
+use Rattle.history_replay.specs.Replay.{start_at, long_at, Site, site}
 use Rattle.history_replay.proofs.Coding.{call_lies}
 use Rattle.history_replay.proofs.Steps.{step-quote, step-save, step-restore}
 use borrow.Author.Rules.{rules}
@@ -27,7 +27,7 @@ returns c =
 
 -- the bytes of a save or a restore lie in the room
 lies : (c : tie.Else1) → let at-start : tie.Start = search in let a = at-start.args in
-    start_at a.calls.now a.k + longAt a.calls.now a.k ≤ length a.room.now
+    start_at a.calls.now a.k + long_at a.calls.now a.k ≤ length a.room.now
 lies c =
     let at-start : tie.Start = search in
     let a = at-start.args in

@@ -7,8 +7,8 @@ use Prim.Native.Nat.{ℕ}
 use borrow.Author.Tests.{not-false}
 use Rattle.config.proofs.Known.{valid-known}
 use Rattle.tally.specs.Entries.{tables}
-use Rattle.image_layout.specs.Layout.{newest, imageLength, formIn, configIn, recordIn, laidOut}
-use Rattle.image.specs.Image.{heldRefusal}
+use Rattle.image_layout.specs.Layout.{newest, image_length, form_in, config_in, record_in, laid_out}
+use Rattle.image.specs.Image.{held_refusal}
 use Rattle.image.proofs.Ways.{way-short, way-invalid, way-layout, way-held}
 use Rattle.image.proofs.Judged.{read-newest, laid-out-read, laid-out-whole}
 use borrow.Author.Rules.{rules}
@@ -19,13 +19,13 @@ returns : tie.Need-returns
 returns c =
     let at-start : tie.Start = search in
     let a = at-start.args in
-    way-short (formIn a.b.now) a.b.now (tables a.stay.now a.moved.now a.move-half-ticks.now) c.if1.true
+    way-short (form_in a.b.now) a.b.now (tables a.stay.now a.moved.now a.move-half-ticks.now) c.if1.true
 
 returns-2 : tie.Need-returns-2
 returns-2 c =
     let at-start : tie.Start = search in
     let a = at-start.args in
-    way-invalid (formIn a.b.now) a.b.now (tables a.stay.now a.moved.now a.move-half-ticks.now) c.before.before.before.if1.false
+    way-invalid (form_in a.b.now) a.b.now (tables a.stay.now a.moved.now a.move-half-ticks.now) c.before.before.before.if1.false
     c.before.before.config-in.ensures c.before.is-valid.ensures c.if2.true
 
 is-laid-out-requires : tie.Need-is-laid-out-requires
@@ -44,18 +44,18 @@ returns-3 c =
     let at-else1 : tie.Else1 = search in
     let at-start : tie.Start = search in
     let a = at-start.args in
-    way-layout (formIn a.b.now) a.b.now (tables a.stay.now a.moved.now a.move-half-ticks.now) at-else1.if1.left
+    way-layout (form_in a.b.now) a.b.now (tables a.stay.now a.moved.now a.move-half-ticks.now) at-else1.if1.left
     at-config-in.config-in.ensures at-is-valid.is-valid.ensures c.before.before.before.if2.false c.before.is-laid-out.ensures c.if3.true
 
 -- past the tests the image is laid out, and of the newest form
-placed : (c : tie.Else3) → let at-start : tie.Start = search in let b = at-start.args.b.now in laidOut (formIn b) b ≡ true
+placed : (c : tie.Else3) → let at-start : tie.Start = search in let b = at-start.args.b.now in laid_out (form_in b) b ≡ true
 placed c = sym c.before.is-laid-out.ensures ∙ not-false _ c.if3.false
 
-form-is : (c : tie.Else3) → let at-start : tie.Start = search in formIn at-start.args.b.now ≡ newest
+form-is : (c : tie.Else3) → let at-start : tie.Start = search in form_in at-start.args.b.now ≡ newest
 form-is c =
     let at-start : tie.Start = search in
     let b = at-start.args.b.now in
-    read-newest (formIn b) (laid-out-read (formIn b) b (placed c))
+    read-newest (form_in b) (laid-out-read (form_in b) b (placed c))
 
 check-held-requires : tie.Need-check-held-requires
 check-held-requires c κs =
@@ -64,9 +64,9 @@ check-held-requires c κs =
     let at-start : tie.Start = search in
     let b = at-start.args.b.now in (
       valid-known _ (sym at-is-valid.is-valid.ensures ∙ not-false _ c.before.before.before.if2.false),
-      at-config-in.config-in.ensures ∙ ap (λ (form : ℕ). configIn form b) (form-is c),
-      c.before.before.record-in.ensures ∙ ap (λ (form : ℕ). recordIn form b) (form-is c),
-      laid-out-whole (formIn b) b (placed c) ∙ (λ i. imageLength (form-is c i) (sym at-config-in.config-in.ensures i)),
+      at-config-in.config-in.ensures ∙ ap (λ (form : ℕ). config_in form b) (form-is c),
+      c.before.before.record-in.ensures ∙ ap (λ (form : ℕ). record_in form b) (form-is c),
+      laid-out-whole (form_in b) b (placed c) ∙ (λ i. image_length (form-is c i) (sym at-config-in.config-in.ensures i)),
     )
 
 returns-4 : tie.Need-returns-4
@@ -78,9 +78,9 @@ returns-4 c =
     let at-start : tie.Start = search in
     let a = at-start.args in
     let t = tables a.stay.now a.moved.now a.move-half-ticks.now in
-    way-held (formIn a.b.now) a.b.now t at-else1.if1.left at-config-in.config-in.ensures at-is-valid.is-valid.ensures at-else2.if2.left
+    way-held (form_in a.b.now) a.b.now t at-else1.if1.left at-config-in.config-in.ensures at-is-valid.is-valid.ensures at-else2.if2.left
     c.before.before.is-laid-out.ensures c.before.if3.false
-    (c.check-held.ensures ∙ ap (λ (form : ℕ). heldRefusal form a.b.now t) (sym (form-is c.before)))
+    (c.check-held.ensures ∙ ap (λ (form : ℕ). held_refusal form a.b.now t) (sym (form-is c.before)))
 
 pub check-restore-spec : {M : Type 1} → statement M
 check-restore-spec =

@@ -7,7 +7,7 @@ use lib.ListN.{length}
 use borrow.Author.Tests.{eq-eqb, ne_eqb}
 use Rattle.config.specs.Configuration.{states}
 use Rattle.config.specs.Inner.{Valid}
-use Rattle.calibrator.specs.Observe.{wrongLengths}
+use Rattle.calibrator.specs.Observe.{wrong_lengths}
 use Rattle.calibrator.proofs.Lengths.{tables-known, lengths-known}
 use borrow.Author.Rules.{rules}
 use Rattle.image.proofs.inner.check_save.Statement.{statement}
@@ -18,7 +18,7 @@ returns c = rw (← c.before.before.check-table-lengths.ensures, c.enum-told2.gi
 
 -- past the first test the configuration is valid and the tables have its lengths
 known : (c : tie.After-enum-told) → let at-start : tie.Start = search in let a = at-start.args in
-    Valid a.config × (wrongLengths (states a.config) (length a.stay.now) (length a.moved.now) (length a.move-half-ticks.now) ≡ false)
+    Valid a.config × (wrong_lengths (states a.config) (length a.stay.now) (length a.moved.now) (length a.move-half-ticks.now) ≡ false)
 known c = tables-known _ _ _ _ (sym c.before.before.check-table-lengths.ensures ∙ c.enum_told.given.1)
 
 image-length-requires : tie.Need-image-length-requires

@@ -7,8 +7,8 @@ use lib.ListN.{length}
 use Rattle.refusals.specs.declared.Check.TheVariants.{Fine}
 use Rattle.tally.specs.Entries.{tables}
 use Rattle.calibrator.specs.Record.{memory}
-use Rattle.image_layout.specs.Layout.{memoryIn}
-use Rattle.image.specs.Image.{restoreRefusal}
+use Rattle.image_layout.specs.Layout.{memory_in}
+use Rattle.image.specs.Image.{restore_refusal}
 use Rattle.image.specs.Inner.{Readable}
 use Rattle.image.proofs.Ways.{way-restored}
 use Rattle.image.proofs.Judged.{restore-known, restore-newest, restore-readable}
@@ -21,7 +21,7 @@ returns c = rw (← c.before.before.before.check-restore.ensures, c.before.k.giv
 
 -- past the test nothing refuses the image
 unrefused : (c : tie.After-enum-told) → let at-start : tie.Start = search in let a = at-start.args in
-    restoreRefusal a.image.now (tables a.stay.now a.moved.now a.move-half-ticks.now) ≡ Fine
+    restore_refusal a.image.now (tables a.stay.now a.moved.now a.move-half-ticks.now) ≡ Fine
 unrefused c = sym c.before.before.check-restore.ensures ∙ c.enum_told.given.1
 
 config-in-requires : tie.Need-config-in-requires
@@ -60,7 +60,7 @@ returns-2 c =
     let form-is = restore-newest b (tables a.stay.now a.moved.now a.move-half-ticks.now) (unrefused at-enum-told) in
     way-restored b (memory a.rec a.stay.now a.moved.now a.move-half-ticks.now) (unrefused at-enum-told)
     at-config-in.config-in.ensures at-record-in.record-in.ensures
-    (at-read-tables.read-tables.ensures ∙ ap (λ (form : ℕ). (memoryIn form b).counts.tables) (sym form-is))
+    (at-read-tables.read-tables.ensures ∙ ap (λ (form : ℕ). (memory_in form b).counts.tables) (sym form-is))
 
 pub restore-spec : {M : Type 1} → statement M
 restore-spec =

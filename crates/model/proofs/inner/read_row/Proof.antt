@@ -5,7 +5,7 @@ use Prim.Native.Nat.{ℕ, ◌*◌}
 use native.Mathlib.Nat.{add-zero}
 use lib.ListN.{get_or}
 use borrow.Author.Rules.{rules}
-use Rattle.model.specs.Rows.{rowWord}
+use Rattle.model.specs.Rows.{row_word}
 use Rattle.model.proofs.inner.read_row.Statement.{statement}
 use Rattle.model.proofs.inner.read_row.Tie as tie
 
@@ -18,16 +18,16 @@ returns c =
     let a = at-start.args in
     let t = a.model.now in
     let k = a.i in
-    let bucket : get_or t (7 * k) 0 ≡ rowWord t k 0 = ap (λ (p : ℕ). get_or t p 0) (sym (add-zero (7 * k))) in
+    let bucket : get_or t (7 * k) 0 ≡ row_word t k 0 = ap (λ (p : ℕ). get_or t p 0) (sym (add-zero (7 * k))) in
     λ j.
     record {
       imbalance_bucket = bucket j;
-      spread_ticks = rowWord t k 1;
-      observations = rowWord t k 2;
+      spread_ticks = row_word t k 1;
+      observations = row_word t k 2;
       first_adjustment = at-from-bits.from-bits.ensures j;
       adjustment = at-from-bits2.from-bits2.ensures j;
       fallback_within_moves = at-from-bits3.from-bits3.ensures j;
-      status = rowWord t k 6;
+      status = row_word t k 6;
     }
 
 pub read-row-spec : {M : Type 1} → statement M

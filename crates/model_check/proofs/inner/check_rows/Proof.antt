@@ -6,17 +6,17 @@ use mathlib.Core.Path.{◌≡◌, ap, ◌∙◌, sym}
 use native.Mathlib.Omega.{arith}
 use borrow.Author.Count.{falls}
 use borrow.Author.Rules.{rules}
-use Rattle.refusals.specs.Refusals.{firstFrom}
+use Rattle.refusals.specs.Refusals.{first_from}
 use Rattle.refusals.proofs.Refusals.{first_step, first-stop, first-end}
 use Rattle.quotes.specs.Inner.{HasLevel}
 use Rattle.quotes.proofs.Levels.{level-start}
-use Rattle.model_check.specs.Check.{checkRow}
+use Rattle.model_check.specs.Check.{check_row}
 use Rattle.model_check.proofs.inner.check_rows.Statement.{statement}
 use Rattle.model_check.proofs.inner.check_rows.Tie as tie
 
 abbrev invariant-loop : tie.invariant-loop
 invariant-loop config table n w level₀ i₀ level i =
-    (firstFrom (checkRow config table) 0 n ≡ firstFrom (checkRow config table) i (n - i)) × HasLevel w level i
+    (first_from (check_row config table) 0 n ≡ first_from (check_row config table) i (n - i)) × HasLevel w level i
 
 abbrev decreases-loop : tie.decreases-loop
 decreases-loop config table n w level₀ i₀ level i = n - i
@@ -26,7 +26,7 @@ loop-holds c =
     let at-start : tie.Start invariant-loop decreases-loop = search in
     let n = at-start.args.n in
     let whole : n ≡ n - 0 = omega arith in
-    (ap (firstFrom _ 0) whole, level-start at-start.args.config.imbalance_buckets (omega (arith, at-start.pre.0.n-least)))
+    (ap (first_from _ 0) whole, level-start at-start.args.config.imbalance_buckets (omega (arith, at-start.pre.0.n-least)))
 
 check-row-requires : tie.Need-check-row-requires invariant-loop decreases-loop
 check-row-requires c κs =

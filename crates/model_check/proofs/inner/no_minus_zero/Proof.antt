@@ -1,4 +1,4 @@
--- `model_check::inner::no_minus_zero` meets its contract: each of the three tests is `minusZero` of its float, so the conjunction of their negations is the
+-- `model_check::inner::no_minus_zero` meets its contract: each of the three tests is `minus_zero` of its float, so the conjunction of their negations is the
 -- definition's.
 use mathlib.Core.Bool.{not, ◌&&◌}
 use borrow.Author.Rules.{rules}

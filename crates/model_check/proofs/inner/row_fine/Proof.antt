@@ -1,5 +1,5 @@
 -- `model_check::inner::row_fine` meets its contract: half the spread is that of the state's level, each leaf answers the rules that its contract names, the
--- status is tested in place, and the conjunction of the seven is the definition's `rowFine`, part by part. No loop. tick × spread is at most 2^53, as
+-- status is tested in place, and the conjunction of the seven is the definition's `row_fine`, part by part. No loop. tick × spread is at most 2^53, as
 -- `half_spread` asks (`width-most`).
 use Prim.Native.Nat.{ℕ, ◌*◌, ◌≤◌}
 use mathlib.Core.Path.{◌≡◌, ap, sym, subst, ◌∙◌}
@@ -7,9 +7,9 @@ use mathlib.Core.Bool.{◌&&◌}
 use native.Mathlib.Omega.{arith}
 use borrow.Author.Rules.{rules}
 use Rattle.basics.specs.Domain.{most}
-use Rattle.floats.specs.Floats.{halfSpread}
+use Rattle.floats.specs.Floats.{half_spread}
 use Rattle.quotes.proofs.Widths.{width-most}
-use Rattle.model_check.specs.Check.{halfSpreadOf, statusKnown, rowFine}
+use Rattle.model_check.specs.Check.{half_spread_of, status_known, row_fine}
 use Rattle.model_check.proofs.inner.row_fine.Statement.{statement}
 use Rattle.model_check.proofs.inner.row_fine.Tie as tie
 
@@ -22,18 +22,18 @@ half-spread-requires c κs =
     omega (arith, width)
 
 returns : tie.Need-returns
-unfolding rowFine
+unfolding row_fine
 returns c =
     let at-is-placed : tie.After-is-placed = search in
     let at-floats-finite : tie.After-floats-finite = search in
     let at-half-spread : tie.After-half-spread = search in
     let at-start : tie.Start = search in
     let a = at-start.args in
-    let half : at-half-spread.half-spread.result ≡ halfSpreadOf a.config a.i =
-    at-half-spread.half-spread.ensures ∙ ap (halfSpread a.config.tick_size) at-start.pre.1.spread-is in
+    let half : at-half-spread.half-spread.result ≡ half_spread_of a.config a.i =
+    at-half-spread.half-spread.ensures ∙ ap (half_spread a.config.tick_size) at-start.pre.1.spread-is in
     λ t.
     at-is-placed.is-placed.ensures t
-    && statusKnown a.e
+    && status_known a.e
     && at-floats-finite.floats-finite.ensures t
     && c.before.before.before.no-minus-zero.ensures t
     && c.before.before.state-values-are-consistent.ensures t

@@ -1,15 +1,15 @@
 -- `model_signals::inner::row_serves` meets its contract: with what `half_spread_of`, `is_finite` and `abs` answer put in, the test is the definition's
--- `rowServes`. No loop; `half_spread_of` asks a valid configuration and a state of it, as this function does.
+-- `row_serves`. No loop; `half_spread_of` asks a valid configuration and a state of it, as this function does.
 use mathlib.Core.Bool.{not, ◌||◌, ◌&&◌}
 use lib.Dec.{leb, eqb}
 use lib.Ieee.{le}
 use borrow.Author.Rules.{rules}
-use Rattle.model_signals.specs.Signal.{rowServes}
+use Rattle.model_signals.specs.Signal.{row_serves}
 use Rattle.model_signals.proofs.inner.row_serves.Statement.{statement}
 use Rattle.model_signals.proofs.inner.row_serves.Tie as tie
 
 returns : tie.Need-returns
-unfolding rowServes
+unfolding row_serves
 returns c =
     let at-half-spread-of : tie.After-half-spread-of = search in
     let at-start : tie.Start = search in

@@ -4,13 +4,13 @@ use Prim.Native.Nat.{◌-◌, ◌≤◌}
 use mathlib.Core.Path.{◌≡◌}
 use native.Mathlib.Omega.{arith}
 use borrow.Author.Rules.{rules}
-use Rattle.quotes.specs.States.{bucketIn}
+use Rattle.quotes.specs.States.{bucket_in}
 use Rattle.quotes.proofs.Levels.{begins-at-zero, begins-next}
 use Rattle.quotes.proofs.inner.mirror_of.Statement.{statement}
 use Rattle.quotes.proofs.inner.mirror_of.Tie as tie
 
 abbrev invariant-loop : tie.invariant-loop
-invariant-loop n state w first₀ first = (bucketIn n first ≡ 0) × (first ≤ state)
+invariant-loop n state w first₀ first = (bucket_in n first ≡ 0) × (first ≤ state)
 
 abbrev decreases-loop : tie.decreases-loop
 decreases-loop n state w first₀ first = state - first

@@ -5,14 +5,14 @@ use Prim.Native.Nat.{◌-◌}
 use mathlib.Core.Path.{◌≡◌, refl, sym, ◌∙◌}
 use native.Mathlib.Omega.{arith}
 use lib.ListN.{drop}
-use Rattle.recording.specs.Recording.{quotesOf, sorted_from, sorted}
+use Rattle.recording.specs.Recording.{quotes_of, sorted_from, sorted}
 use Rattle.recording.proofs.Recordings.{sorted-step, sorted-stop, sorted-end}
 use Rattle.recording.proofs.inner.is_sorted.Statement.{statement}
 use Rattle.recording.proofs.inner.is_sorted.Tie as tie
 
 abbrev invariant-loop : tie.invariant-loop
 invariant-loop recording n last₀ i₀ last i =
-    sorted (quotesOf recording) ≡ sorted_from last (drop i (quotesOf recording))
+    sorted (quotes_of recording) ≡ sorted_from last (drop i (quotes_of recording))
 
 abbrev decreases-loop : tie.decreases-loop
 decreases-loop recording n last₀ i₀ last i = n - i

@@ -5,7 +5,7 @@ use Prim.Native.Nat.{◌+◌, ◌/◌, ◌-◌, ◌≤◌}
 use native.Mathlib.Omega.{arith}
 use lib.ListN.{length}
 use Rattle.basics.specs.Lists.{count}
-use Rattle.recording.specs.Recording.{quotesOf}
+use Rattle.recording.specs.Recording.{quotes_of}
 use Rattle.recording.specs.Window.{before}
 use Rattle.recording.proofs.Recordings.{quotes-length}
 use Rattle.recording.proofs.Windows.{count_most, before-past, before-most}
@@ -14,13 +14,13 @@ use Rattle.recording.proofs.inner.quotes_before.Tie as tie
 
 abbrev invariant-loop : tie.invariant-loop
 invariant-loop recording time low₀ high₀ low high =
-    (low ≤ count (before time) (quotesOf recording)) × (count (before time) (quotesOf recording) ≤ high) × (high ≤ length recording / 5)
+    (low ≤ count (before time) (quotes_of recording)) × (count (before time) (quotes_of recording) ≤ high) × (high ≤ length recording / 5)
 
 abbrev decreases-loop : tie.decreases-loop
 decreases-loop recording time low₀ high₀ low high = high - low
 
 loop-holds : tie.Need-loop-init invariant-loop decreases-loop
-loop-holds c = omega (arith, count_most (before c.args.time) (quotesOf c.args.recording.now), quotes-length c.args.recording.now)
+loop-holds c = omega (arith, count_most (before c.args.time) (quotes_of c.args.recording.now), quotes-length c.args.recording.now)
 
 loop-again : tie.Need-loop-preserved invariant-loop decreases-loop
 loop-again c =
