@@ -3,7 +3,6 @@
 #![tactic(auto)]
 
 ghost use Rattle.std.specs.Prelude.{◌≡◌, [], length};
-ghost use Rattle.basics.specs.Loan.{given, final};
 ghost use Rattle.calibrator.specs.Record.{memory};
 ghost use Rattle.abi_encoding.specs.Encoding.{record_length, lent};
 ghost use Rattle.abi_batch.specs.Batch.{lent_evening, evening_number, invalid_after, has_counted, record_after_evening, calibrate_words, lent_replay, PromisedWords};
@@ -15,7 +14,7 @@ use history_replay::Replayed;
 
 // An evening's answer as a number; with a fit's answer the number of invalid quotes is written.
 fn put_invalid(answer: Evening, invalid: &mut u64) -> u64
-    ensures { (result ≡ evening_number answer) × (final invalid ≡ invalid_after answer (given invalid)) }
+    ensures { (result ≡ evening_number answer) × (invalid.new ≡ invalid_after answer invalid.old) }
 {
     match answer {
         Evening::Fitted(d) => {
@@ -43,7 +42,7 @@ fn has_counted(answer: Evening) -> bool
 // Writes the record where quotes were counted. Its caller has as many words.
 fn put_counted(rec: &mut [u64], answer: Evening, next: Record)
     requires { length rec.old ≡ record_length }
-    ensures { final rec ≡ record_after_evening answer (given rec) (memory next [] [] []) }
+    ensures { rec.new ≡ record_after_evening answer rec.old (memory next [] [] []) }
 {
     if has_counted(answer) {
         abi_encoding::put_record(rec, next);
@@ -66,8 +65,8 @@ pub extern "C" fn micro_price_calibrate(
     model: &mut [u64],
     invalid: &mut u64,
 ) -> u64
-    ensures { lent_evening result (final rec) (final stay) (final moved) (final move_half_ticks) (final model) (final scratch) (final invalid)
-        ≡ calibrate_words (given config) (given rec) (given stay) (given moved) (given move_half_ticks) (given recording) start end (given model) (given scratch) (given invalid) }
+    ensures { lent_evening result rec.new stay.new moved.new move_half_ticks.new model.new scratch.new invalid.new
+        ≡ calibrate_words config.now rec.old stay.old moved.old move_half_ticks.old recording.now start end model.old scratch.old invalid.old }
 {
     if !abi_encoding::right_words(config, rec) {
         return BAD_ENCODING;
@@ -101,8 +100,8 @@ pub extern "C" fn micro_price_replay(
     room: &mut [u8],
     answers: &mut [u64],
 ) -> u64
-    ensures { PromisedWords (given config) (given rec) (given stay) (given moved) (given move_half_ticks) (given calls) (given room) (given answers)
-        (lent_replay (final answers) (final room) (lent result (final rec) (final stay) (final moved) (final move_half_ticks))) }
+    ensures { PromisedWords config.now rec.old stay.old moved.old move_half_ticks.old calls.now room.old answers.old
+        (lent_replay answers.new room.new (lent result rec.new stay.new moved.new move_half_ticks.new)) }
 {
     if !abi_encoding::is_encoded(config, rec) {
         return BAD_ENCODING;

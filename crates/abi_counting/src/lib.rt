@@ -4,7 +4,6 @@
 #![tactic(auto)]
 
 ghost use Rattle.std.specs.Prelude.{◌≡◌};
-ghost use Rattle.basics.specs.Loan.{given, final};
 ghost use Rattle.abi_encoding.specs.Encoding.{lent, top_of_book};
 ghost use Rattle.abi_counting.specs.Counting.{validate_words, new_words, observe_words};
 
@@ -15,7 +14,7 @@ use refusals::Check;
 // Whether a configuration is valid: 0 or 1.
 #[unsafe(no_mangle)]
 pub extern "C" fn micro_price_validate(config: &[u64]) -> u64
-    ensures { result ≡ validate_words (given config) }
+    ensures { result ≡ validate_words config.now }
 {
     if config.len() != config::inner::CONFIG_WORDS {
         return BAD_ENCODING;
@@ -32,7 +31,7 @@ pub extern "C" fn micro_price_new(
     moved: &mut [u64],
     move_half_ticks: &mut [i64],
 ) -> u64
-    ensures { lent result (final rec) (final stay) (final moved) (final move_half_ticks) ≡ new_words (given config) (given rec) (given stay) (given moved) (given move_half_ticks) }
+    ensures { lent result rec.new stay.new moved.new move_half_ticks.new ≡ new_words config.now rec.old stay.old moved.old move_half_ticks.old }
 {
     if !abi_encoding::right_words(config, rec) {
         return BAD_ENCODING;
@@ -67,8 +66,8 @@ pub extern "C" fn micro_price_observe(
     bid_size: u64,
     ask_size: u64,
 ) -> u64
-    ensures { lent result (final rec) (final stay) (final moved) (final move_half_ticks)
-        ≡ observe_words (given config) (given rec) (given stay) (given moved) (given move_half_ticks) (top_of_book timestamp_ms bid ask bid_size ask_size) }
+    ensures { lent result rec.new stay.new moved.new move_half_ticks.new
+        ≡ observe_words config.now rec.old stay.old moved.old move_half_ticks.old (top_of_book timestamp_ms bid ask bid_size ask_size) }
 {
     if !abi_encoding::is_encoded(config, rec) {
         return BAD_ENCODING;

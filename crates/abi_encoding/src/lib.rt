@@ -2,7 +2,6 @@
 #![tactic(auto)]
 
 ghost use Rattle.std.specs.Prelude.{◌≡◌, [], ◌≤◌, length};
-ghost use Rattle.basics.specs.Loan.{given, final};
 ghost use Rattle.calibrator.specs.Record.{memory};
 ghost use Rattle.abi_encoding.specs.Encoding.{record_length, record_words_of, previous_of, record_of, is_record, right_words, encoded};
 ghost use Rattle.abi_encoding.specs.Inner.{are_zero};
@@ -25,7 +24,7 @@ fn are_zero(a: u64, b: u64, c: u64, d: u64, e: u64) -> bool
 
 // Whether the words are a record's.
 pub fn is_record(w: &[u64]) -> bool
-    ensures { result ≡ is_record (given w) }
+    ensures { result ≡ is_record w.now }
 {
     if w.len() != RECORD_WORDS {
         return false;
@@ -38,21 +37,21 @@ pub fn is_record(w: &[u64]) -> bool
 
 // Whether the words are as many as a configuration's and a record's.
 pub fn right_words(config: &[u64], rec: &[u64]) -> bool
-    ensures { result ≡ right_words (given config) (given rec) }
+    ensures { result ≡ right_words config.now rec.now }
 {
     (config.len() == config::inner::CONFIG_WORDS) & (rec.len() == RECORD_WORDS)
 }
 
 // Whether the words are a configuration's and a record's.
 pub fn is_encoded(config: &[u64], rec: &[u64]) -> bool
-    ensures { result ≡ encoded (given config) (given rec) }
+    ensures { result ≡ encoded config.now rec.now }
 {
     (config.len() == config::inner::CONFIG_WORDS) & is_record(rec)
 }
 
 fn previous_of(w: &[u64]) -> Previous
     requires { 6 ≤ length w.now }
-    ensures { result ≡ previous_of (given w) }
+    ensures { result ≡ previous_of w.now }
 {
     if w[0] != 1 {
         return Previous::Nothing;
@@ -69,7 +68,7 @@ fn previous_of(w: &[u64]) -> Previous
 // The record that words hold, whatever they are.
 pub fn record_of(w: &[u64]) -> Record
     requires { length w.now ≡ record_length }
-    ensures { result ≡ record_of (given w) }
+    ensures { result ≡ record_of w.now }
 {
     let previous = previous_of(w);
     let counters = Counters {
@@ -84,7 +83,7 @@ pub fn record_of(w: &[u64]) -> Record
 // Writes the words of a record.
 pub fn put_record(w: &mut [u64], rec: Record)
     requires { length w.old ≡ record_length }
-    ensures { final w ≡ record_words_of (memory rec [] [] []) }
+    ensures { w.new ≡ record_words_of (memory rec [] [] []) }
 {
     let previous = rec.previous;
     let p = image_layout::previous_words(previous);

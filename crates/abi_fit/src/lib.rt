@@ -2,7 +2,6 @@
 #![tactic(auto)]
 
 ghost use Rattle.std.specs.Prelude.{◌≡◌};
-ghost use Rattle.basics.specs.Loan.{given, final};
 ghost use Rattle.abi_fit.specs.FitWindow.{lent_fit, fit_words, lent_ends, window_words};
 
 use abi_encoding::BAD_ENCODING;
@@ -19,7 +18,7 @@ pub extern "C" fn micro_price_fit_counts(
     scratch: &mut [f64],
     model: &mut [u64],
 ) -> u64
-    ensures { lent_fit result (final model) (final scratch) ≡ fit_words (given config) (given rec) (given stay) (given moved) (given move_half_ticks) (given model) (given scratch) }
+    ensures { lent_fit result model.new scratch.new ≡ fit_words config.now rec.now stay.now moved.now move_half_ticks.now model.old scratch.old }
 {
     if !abi_encoding::is_encoded(config, rec) {
         return BAD_ENCODING;
@@ -45,7 +44,7 @@ pub extern "C" fn micro_price_window_of(
     first: &mut u64,
     past: &mut u64,
 ) -> u64
-    ensures { lent_ends result (final first) (final past) ≡ window_words (given recording) start end (given first) (given past) }
+    ensures { lent_ends result first.new past.new ≡ window_words recording.now start end first.old past.old }
 {
     let found = recording::window_of(recording, start, end);
     match found {

@@ -4,7 +4,6 @@
 #![tactic(auto)]
 
 ghost use Rattle.std.specs.Prelude.{◌≡◌};
-ghost use Rattle.basics.specs.Loan.{given, final};
 ghost use Rattle.abi_encoding.specs.Encoding.{lent};
 ghost use Rattle.abi_image.specs.Images.{lent_out, save_words, lent_back, restore_words};
 
@@ -21,7 +20,7 @@ pub extern "C" fn micro_price_save(
     move_half_ticks: &[i64],
     out: &mut [u8],
 ) -> u64
-    ensures { lent_out result (final out) ≡ save_words (given config) (given rec) (given stay) (given moved) (given move_half_ticks) (given out) }
+    ensures { lent_out result out.new ≡ save_words config.now rec.now stay.now moved.now move_half_ticks.now out.old }
 {
     if !abi_encoding::is_encoded(config, rec) {
         return BAD_ENCODING;
@@ -47,8 +46,8 @@ pub extern "C" fn micro_price_restore(
     moved: &mut [u64],
     move_half_ticks: &mut [i64],
 ) -> u64
-    ensures { lent_back (final config) (lent result (final rec) (final stay) (final moved) (final move_half_ticks))
-        ≡ restore_words (given image) (given config) (given rec) (given stay) (given moved) (given move_half_ticks) }
+    ensures { lent_back config.new (lent result rec.new stay.new moved.new move_half_ticks.new)
+        ≡ restore_words image.now config.old rec.old stay.old moved.old move_half_ticks.old }
 {
     if !abi_encoding::right_words(config, rec) {
         return BAD_ENCODING;

@@ -3,7 +3,6 @@
 #![tactic(auto)]
 
 ghost use Rattle.std.specs.Prelude.{◌≡◌, length};
-ghost use Rattle.basics.specs.Loan.{given, final};
 ghost use Rattle.refusals.specs.Refusals.{number_of, row_or};
 ghost use Rattle.abi_encoding.specs.Encoding.{top_of_book};
 ghost use Rattle.abi_models.specs.Models.{lent_row, check_model_words, lent_signal, signal_length, sent_words, signal_words};
@@ -18,7 +17,7 @@ pub const SIGNAL_WORDS: usize = 4;
 
 // A refusal's number; at 13 the row that it names is written.
 fn put_row(r: Refusal, row: &mut u64) -> u64
-    ensures { (result ≡ number_of r) × (final row ≡ row_or r (given row)) }
+    ensures { (result ≡ number_of r) × (row.new ≡ row_or r row.old) }
 {
     *row = refusals::row_or(r, *row);
     refusals::number_of(r)
@@ -27,7 +26,7 @@ fn put_row(r: Refusal, row: &mut u64) -> u64
 // Refuses a model table that is not one of the configuration; at 13, row is the first bad row.
 #[unsafe(no_mangle)]
 pub extern "C" fn micro_price_check_model(config: &[u64], model: &[u64], row: &mut u64) -> u64
-    ensures { lent_row result (final row) ≡ check_model_words (given config) (given model) (given row) }
+    ensures { lent_row result row.new ≡ check_model_words config.now model.now row.old }
 {
     if config.len() != config::inner::CONFIG_WORDS {
         return BAD_ENCODING;
@@ -42,7 +41,7 @@ pub extern "C" fn micro_price_check_model(config: &[u64], model: &[u64], row: &m
 // Time, bid + ask, the bits of the adjustment, source.
 fn put_signal(out: &mut [u64], s: MicroPriceSignal)
     requires { length out.old ≡ signal_length }
-    ensures { final out ≡ sent_words s }
+    ensures { out.new ≡ sent_words s }
 {
     let source = s.source;
     out[0] = s.timestamp_ms;
@@ -64,7 +63,7 @@ pub extern "C" fn micro_price_signal(
     out: &mut [u64],
     row: &mut u64,
 ) -> u64
-    ensures { lent_signal result (final out) (final row) ≡ signal_words (given config) (given model) (top_of_book timestamp_ms bid ask bid_size ask_size) (given out) (given row) }
+    ensures { lent_signal result out.new row.new ≡ signal_words config.now model.now (top_of_book timestamp_ms bid ask bid_size ask_size) out.old row.old }
 {
     if config.len() != config::inner::CONFIG_WORDS {
         return BAD_ENCODING;

@@ -1,3 +1,2 @@
 pub mod Domain
 pub mod Lists
-pub mod Loan

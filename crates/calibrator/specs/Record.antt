@@ -1,6 +1,5 @@
 -- A calibrator's memory: the record of counters and last quote, and the three tables. Document 01, "New, and one quote".
 use Rattle.std.specs.Prelude.{ℕ, List, [], ◌∷◌, ℤ, get_or}
-use Rattle.basics.specs.Loan.{Loan, given, final}
 use Rattle.refusals.specs.declared.Check.{Check}
 use Rattle.refusals.specs.declared.Check.TheVariants.{Fine, Refused}
 use Rattle.quotes.specs.declared.Skip.{Skip}
@@ -41,16 +40,9 @@ pub record Outcome (Last : Type 0) : Type 0 where
   pub answer : Check
   pub left : Memory Last
 
--- ---- contracts speak of lent tables by these: the memory that came, the memory that remains, and what an operation leaves
-
-abbrev pub came : Record → Loan (List ℕ) → Loan (List ℕ) → Loan (List ℤ) → Memory Previous
-came r s m t = memory r (given s) (given m) (given t)
-
-abbrev pub remains : Record → Loan (List ℕ) → Loan (List ℕ) → Loan (List ℤ) → Memory Previous
-remains r s m t = memory r (final s) (final m) (final t)
-
-abbrev pub leaves : Check → Record → Loan (List ℕ) → Loan (List ℕ) → Loan (List ℤ) → Outcome Previous
-leaves k r s m t = record { answer = k; left = remains r s m t }
+-- what an operation leaves: its answer, and the record and the tables as they are then
+abbrev pub leaves : Check → Record → List ℕ → List ℕ → List ℤ → Outcome Previous
+leaves k r s m t = record { answer = k; left = memory r s m t }
 
 -- a refusal changes nothing
 abbrev pub answered : {Last : Type 0} → Check → Memory Last → Memory Last → Outcome Last

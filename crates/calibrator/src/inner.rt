@@ -1,6 +1,5 @@
 // The work by value, for Rattle callers, and the functions that it is made of. `new` and `observe` ask nothing; where another has a `requires`, each caller proves it.
 ghost use Rattle.std.specs.Prelude.{◌≡◌, false, ℕ, ◌+◌, ◌*◌, ◌≤◌, ◌<◌, length, replicate, ℤ, pos, List};
-ghost use Rattle.basics.specs.Loan.{given, final};
 ghost use Rattle.basics.specs.Domain.{counter_limit};
 ghost use Rattle.config.specs.Configuration.{states};
 ghost use Rattle.config.specs.Inner.{Valid};
@@ -8,7 +7,7 @@ ghost use Rattle.quotes.specs.Neighbours.{neighbours_of};
 ghost use Rattle.quotes.specs.Inner.{Accepted};
 ghost use Rattle.quotes.specs.Quotes.{check_quote};
 ghost use Rattle.tally.specs.Events.{skip};
-ghost use Rattle.calibrator.specs.Record.{memory, kind_of, came, leaves};
+ghost use Rattle.calibrator.specs.Record.{memory, kind_of, leaves};
 ghost use Rattle.calibrator.specs.Inner.{outcome, skip_count, add_skip, add_pair, accepted, limited, pick_done, no_counters, entry_of, Countable, judge_pair, counted_as};
 ghost use Rattle.calibrator.specs.Observe.{event_from, wrong_lengths, check_table_lengths, made, observed};
 
@@ -164,7 +163,7 @@ fn count_pair(
     pair: Pair,
 ) -> Done
     requires { Valid config × Countable config pair × (wrong_lengths (states config) (length stay.old) (length moved.old) (length move_half_ticks.old) ≡ false) }
-    ensures { leaves result.answer result.next stay moved move_half_ticks ≡ counted_as config (came rec stay moved move_half_ticks) quote (event_from (Neighbours.Counted pair)) }
+    ensures { leaves result.answer result.next stay.new moved.new move_half_ticks.new ≡ counted_as config (memory rec stay.old moved.old move_half_ticks.old) quote (event_from (Neighbours.Counted pair)) }
 {
     let n = config::inner::state_count(config);
     let e = entry_of(pair);
@@ -191,7 +190,7 @@ fn next_quote(
 ) -> Done
     requires { Valid config × Accepted config last × Accepted config quote × (last.timestamp_ms ≤ quote.timestamp_ms)
         × (wrong_lengths (states config) (length stay.old) (length moved.old) (length move_half_ticks.old) ≡ false) }
-    ensures { leaves result.answer result.next stay moved move_half_ticks ≡ counted_as config (came rec stay moved move_half_ticks) quote (event_from (neighbours_of config last quote)) }
+    ensures { leaves result.answer result.next stay.new moved.new move_half_ticks.new ≡ counted_as config (memory rec stay.old moved.old move_half_ticks.old) quote (event_from (neighbours_of config last quote)) }
 {
     let found = quotes::inner::neighbours(config, last, quote);
     match found {
@@ -233,7 +232,7 @@ pub fn observe(
     config: MicroPriceConfig,
     quote: TopOfBook,
 ) -> Done
-    ensures { leaves result.answer result.next stay moved move_half_ticks ≡ observed config (came rec stay moved move_half_ticks) quote }
+    ensures { leaves result.answer result.next stay.new moved.new move_half_ticks.new ≡ observed config (memory rec stay.old moved.old move_half_ticks.old) quote }
 {
     let lengths = check_table_lengths(config, stay.len(), moved.len(), move_half_ticks.len());
     let Check::Fine = lengths else {
@@ -257,7 +256,7 @@ pub fn observe(
 }
 
 fn zero_cells(t: &mut [u64])
-    ensures { final t ≡ replicate (length (given t)) 0 }
+    ensures { t.new ≡ replicate (length t.old) 0 }
 {
     let mut i = 0;
     while i < t.len() {
@@ -267,7 +266,7 @@ fn zero_cells(t: &mut [u64])
 }
 
 fn zero_totals(t: &mut [i64])
-    ensures { final t ≡ replicate (length (given t)) (pos 0) }
+    ensures { t.new ≡ replicate (length t.old) (pos 0) }
 {
     let mut i = 0;
     while i < t.len() {
@@ -296,7 +295,7 @@ pub fn new(
     move_half_ticks: &mut [i64],
     config: MicroPriceConfig,
 ) -> Done
-    ensures { leaves result.answer result.next stay moved move_half_ticks ≡ made config (came rec stay moved move_half_ticks) }
+    ensures { leaves result.answer result.next stay.new moved.new move_half_ticks.new ≡ made config (memory rec stay.old moved.old move_half_ticks.old) }
 {
     let lengths = check_table_lengths(config, stay.len(), moved.len(), move_half_ticks.len());
     let Check::Fine = lengths else {

@@ -8,8 +8,7 @@ use refusals::Check;
 pub mod inner;
 
 ghost use Rattle.std.specs.Prelude.{◌≡◌};
-ghost use Rattle.basics.specs.Loan.{given, final};
-ghost use Rattle.calibrator.specs.Record.{came, leaves};
+ghost use Rattle.calibrator.specs.Record.{memory, leaves};
 ghost use Rattle.calibrator.specs.Observe.{made, observed};
 
 // The last quote, if any.
@@ -53,7 +52,7 @@ pub fn new(
     move_half_ticks: &mut [i64],
     config: MicroPriceConfig,
 ) -> Check
-    ensures { leaves result (final rec) stay moved move_half_ticks ≡ made config (came (given rec) stay moved move_half_ticks) }
+    ensures { leaves result rec.new stay.new moved.new move_half_ticks.new ≡ made config (memory rec.old stay.old moved.old move_half_ticks.old) }
 {
     let done = inner::new(*rec, stay, moved, move_half_ticks, config);
     *rec = done.next;
@@ -69,7 +68,7 @@ pub fn observe(
     config: MicroPriceConfig,
     quote: TopOfBook,
 ) -> Check
-    ensures { leaves result (final rec) stay moved move_half_ticks ≡ observed config (came (given rec) stay moved move_half_ticks) quote }
+    ensures { leaves result rec.new stay.new moved.new move_half_ticks.new ≡ observed config (memory rec.old stay.old moved.old move_half_ticks.old) quote }
 {
     let done = inner::observe(*rec, stay, moved, move_half_ticks, config, quote);
     *rec = done.next;

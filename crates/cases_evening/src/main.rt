@@ -3,7 +3,6 @@
 #![tactic(auto)]
 
 ghost use Rattle.std.specs.Prelude.{◌≡◌, ◌≤◌, length};
-ghost use Rattle.basics.specs.Loan.{given};
 
 use libc::{STDIN_FILENO, STDOUT_FILENO};
 
@@ -29,7 +28,7 @@ fn output_room() -> [u8; 4350]
 // Where the line that begins at `at` ends.
 fn line_end(input: &[u8], at: usize) -> usize
     requires { at ≤ length input.now }
-    ensures { (at ≤ result) × (result ≤ length (given input)) }
+    ensures { (at ≤ result) × (result ≤ length input.now) }
 {
     let mut i = at;
     while i < input.len() {
@@ -58,7 +57,7 @@ fn count_of(line: &[u8]) -> u64 {
 
 // The place after the first space of a line.
 fn after_space(line: &[u8]) -> usize
-    ensures { result ≤ length (given line) }
+    ensures { result ≤ length line.now }
 {
     let mut i: usize = 0;
     while i < line.len() {
@@ -87,7 +86,7 @@ fn meant(b: u8) -> u8 {
 // Adds bytes to the n bytes of a text, as far as there is room.
 fn add(part: &[u8], text: &mut [u8], n: usize) -> usize
     requires { n ≤ length text.old }
-    ensures { result ≤ length (given text) }
+    ensures { result ≤ length text.old }
 {
     let mut k = n;
     let mut i: usize = 0;
@@ -105,7 +104,7 @@ fn add(part: &[u8], text: &mut [u8], n: usize) -> usize
 // The same, many times.
 fn add_times(times: u64, part: &[u8], text: &mut [u8], n: usize) -> usize
     requires { n ≤ length text.old }
-    ensures { result ≤ length (given text) }
+    ensures { result ≤ length text.old }
 {
     let mut k = n;
     let mut i: u64 = 0;
@@ -119,7 +118,7 @@ fn add_times(times: u64, part: &[u8], text: &mut [u8], n: usize) -> usize
 // A line of a case: its name, which begins a new text; what is to be added to the text; or the end, where the text is run. Answers how long the text then is.
 fn run_line(line: &[u8], text: &mut [u8], n: usize) -> usize
     requires { n ≤ length text.old }
-    ensures { result ≤ length (given text) }
+    ensures { result ≤ length text.old }
 {
     if line.len() == 0 {
         return n;

@@ -3,7 +3,6 @@
 #![tactic(auto)]
 
 ghost use Rattle.std.specs.Prelude.{◌<◌, ◌≤◌, length};
-ghost use Rattle.basics.specs.Loan.{given};
 
 use calibrator::Record;
 use cases_shared::reading::{config_of, count_at, word_at};
@@ -327,7 +326,7 @@ fn run_case(words: &[u64]) {
 
 // Runs the case whose line begins at `at`; there is room for the longest. Answers where the next line begins.
 fn run(text: &[u8], at: usize) -> usize
-    ensures { at < length (given text) → at < result }
+    ensures { at < length text.now → at < result }
 {
     let mut words = [0; 2200];
     let next = cases_shared::reading::read_line(text, at, &mut words);

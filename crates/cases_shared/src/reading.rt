@@ -1,6 +1,5 @@
 // The words of a case, read from a line of text. Where a function has a `requires`, each caller proves it.
 ghost use Rattle.std.specs.Prelude.{◌<◌, ◌≤◌, length};
-ghost use Rattle.basics.specs.Loan.{given};
 
 use config::MicroPriceConfig;
 use quotes::TopOfBook;
@@ -29,7 +28,7 @@ fn put_digit(words: &mut [u64], k: usize, b: u8) {
 
 // Reads a line into words that are 0. Answers where the next line begins.
 pub fn read_line(text: &[u8], at: usize, words: &mut [u64]) -> usize
-    ensures { at < length (given text) → at < result }
+    ensures { at < length text.now → at < result }
 {
     let mut i = at;
     let mut k: usize = 0;

@@ -1,6 +1,5 @@
 // The words of an answer, printed.
 ghost use Rattle.std.specs.Prelude.{◌≤◌, length};
-ghost use Rattle.basics.specs.Loan.{given};
 
 use crate::tables::minus;
 use libc::STDOUT_FILENO;
@@ -50,7 +49,7 @@ fn one_unless_zero(w: u64) -> usize
 
 // How many words are not 0.
 fn count_cells(table: &[u64]) -> usize
-    ensures { result ≤ length (given table) }
+    ensures { result ≤ length table.now }
 {
     let mut count: usize = 0;
     let mut k: usize = 0;
@@ -63,7 +62,7 @@ fn count_cells(table: &[u64]) -> usize
 
 // How many totals are not 0.
 fn count_totals(move_half_ticks: &[i64]) -> usize
-    ensures { result ≤ length (given move_half_ticks) }
+    ensures { result ≤ length move_half_ticks.now }
 {
     let mut count: usize = 0;
     let mut i: usize = 0;

@@ -1,6 +1,5 @@
 // Inner functions: for the crates above, not for users. Where one has a `requires`, each caller proves it.
 ghost use Rattle.std.specs.Prelude.{◌≡◌, true};
-ghost use Rattle.basics.specs.Loan.{given, final};
 ghost use Rattle.config.specs.Configuration.{shape, valid, states, is_config, config_words, config_of, same_config};
 ghost use Rattle.config.specs.Inner.{Valid};
 
@@ -47,7 +46,7 @@ pub const CONFIG_WORDS: usize = 5;
 // The configuration of its words.
 pub fn config_of(w: &[u64]) -> MicroPriceConfig
     requires { is_config w.now ≡ true }
-    ensures { result ≡ config_of (given w) }
+    ensures { result ≡ config_of w.now }
 {
     MicroPriceConfig::new(w[0], w[1], w[2])
         .with_min_state_observations(w[3])
@@ -57,7 +56,7 @@ pub fn config_of(w: &[u64]) -> MicroPriceConfig
 // Writes the words of a configuration.
 pub fn put_config(w: &mut [u64], config: MicroPriceConfig)
     requires { is_config w.old ≡ true }
-    ensures { final w ≡ config_words config }
+    ensures { w.new ≡ config_words config }
 {
     w[0] = config.tick_size;
     w[1] = config.imbalance_buckets;

@@ -3,7 +3,6 @@
 #![tactic(auto)]
 
 ghost use Rattle.std.specs.Prelude.{◌≡◌, true, false, [], ℕ, ◌+◌, ◌*◌, ◌≤◌, ◌<◌, min, pos, length, get_or};
-ghost use Rattle.basics.specs.Loan.{given};
 ghost use Rattle.basics.specs.Lists.{any, sum};
 ghost use Rattle.basics.specs.Domain.{counter_limit};
 ghost use Rattle.refusals.specs.Refusals.{first_from};
@@ -31,7 +30,7 @@ const SUM_CAP: u64 = 2 * COUNTER_LIMIT + 1;
 // Cell i of a table, from the slice or, if imaged, from the bytes.
 fn cell_in(t: &[u64], b: &[u8], imaged: bool, n: usize, i: usize) -> u64
     requires { HasTable imaged n (length t.now) (length b.now) × (i < n) }
-    ensures { result ≡ get_or (cells_in imaged (given t) (given b)) i 0 }
+    ensures { result ≡ get_or (cells_in imaged t.now b.now) i 0 }
 {
     if imaged {
         return image_words::get_word(b, 8 * i);
@@ -42,7 +41,7 @@ fn cell_in(t: &[u64], b: &[u8], imaged: bool, n: usize, i: usize) -> u64
 // Total i as its word.
 fn total_in(t: &[i64], b: &[u8], imaged: bool, n: usize, i: usize) -> u64
     requires { HasTable imaged n (length t.now) (length b.now) × (i < n) }
-    ensures { WordOf result (get_or (totals_in imaged (given t) (given b)) i (pos 0)) }
+    ensures { WordOf result (get_or (totals_in imaged t.now b.now) i (pos 0)) }
 {
     if imaged {
         return image_words::get_word(b, 8 * i);
@@ -67,7 +66,7 @@ fn are_opposite(a: u64, b: u64) -> bool
 
 fn totals_over(t: &[i64], b: &[u8], imaged: bool, n: usize) -> bool
     requires { HasTable imaged n (length t.now) (length b.now) }
-    ensures { result ≡ any over_total (totals_in imaged (given t) (given b)) }
+    ensures { result ≡ any over_total (totals_in imaged t.now b.now) }
 {
     let mut i: usize = 0;
     while i < n {
@@ -81,7 +80,7 @@ fn totals_over(t: &[i64], b: &[u8], imaged: bool, n: usize) -> bool
 
 fn total_mirrored(t: &[i64], b: &[u8], imaged: bool, n: usize, i: usize, m: usize) -> bool
     requires { HasTable imaged n (length t.now) (length b.now) × (i < n) × (m < n) }
-    ensures { result ≡ total_mirrored (totals_in imaged (given t) (given b)) i m }
+    ensures { result ≡ total_mirrored (totals_in imaged t.now b.now) i m }
 {
     let x = total_in(t, b, imaged, n, i);
     let y = total_in(t, b, imaged, n, m);
@@ -104,7 +103,7 @@ fn add_capped(a: u64, x: u64) -> u64
 
 fn sum_capped(t: &[u64], b: &[u8], imaged: bool, n: usize) -> u64
     requires { HasTable imaged n (length t.now) (length b.now) }
-    ensures { result ≡ min sum_cap (sum (cells_in imaged (given t) (given b))) }
+    ensures { result ≡ min sum_cap (sum (cells_in imaged t.now b.now)) }
 {
     let mut a: u64 = 0;
     let mut i: usize = 0;
@@ -126,7 +125,7 @@ fn is_twice(
     cells: usize,
 ) -> bool
     requires { (pairs ≤ counter_limit) × HasTable imaged cells (length stay.now) (length sb.now) × HasTable imaged cells (length moved.now) (length mb.now) }
-    ensures { result ≡ is_twice pairs (tables (cells_in imaged (given stay) (given sb)) (cells_in imaged (given moved) (given mb)) []) }
+    ensures { result ≡ is_twice pairs (tables (cells_in imaged stay.now sb.now) (cells_in imaged moved.now mb.now) []) }
 {
     let a = sum_capped(stay, sb, imaged, cells);
     let b = sum_capped(moved, mb, imaged, cells);
@@ -135,7 +134,7 @@ fn is_twice(
 
 fn cells_alike(t: &[u64], b: &[u8], imaged: bool, n: usize, x: usize, y: usize) -> bool
     requires { HasTable imaged n (length t.now) (length b.now) × (x < n) × (y < n) }
-    ensures { result ≡ cells_alike (cells_in imaged (given t) (given b)) x y }
+    ensures { result ≡ cells_alike (cells_in imaged t.now b.now) x y }
 {
     let p = cell_in(t, b, imaged, n, x);
     let q = cell_in(t, b, imaged, n, y);
@@ -153,7 +152,7 @@ fn row_mirrored(
     i: usize,
 ) -> bool
     requires { (n ≤ 256) × (i < n) × Mirrors n mirrors.now × HasTable imaged (n * n) (length stay.now) (length sb.now) × HasTable imaged (n * n) (length moved.now) (length mb.now) }
-    ensures { result ≡ row_mirrored n (λ k. get_or (given mirrors) k 0) (tables (cells_in imaged (given stay) (given sb)) (cells_in imaged (given moved) (given mb)) []) i }
+    ensures { result ≡ row_mirrored n (λ k. get_or mirrors.now k 0) (tables (cells_in imaged stay.now sb.now) (cells_in imaged moved.now mb.now) []) i }
 {
     let cells = n * n;
     let m = mirrors[i];
@@ -186,7 +185,7 @@ fn check_state(
 ) -> Check
     requires { (i < n) × Mirrors n mirrors.now
         × HasTables imaged n (length stay.now) (length moved.now) (length move_half_ticks.now) (length sb.now) (length mb.now) (length tb.now) }
-    ensures { result ≡ check_state n (λ k. get_or (given mirrors) k 0) (tables_in imaged (given stay) (given moved) (given move_half_ticks) (given sb) (given mb) (given tb)) i }
+    ensures { result ≡ check_state n (λ k. get_or mirrors.now k 0) (tables_in imaged stay.now moved.now move_half_ticks.now sb.now mb.now tb.now) i }
 {
     if !total_mirrored(move_half_ticks, tb, imaged, n, i, mirrors[i]) {
         return Check::Refused(Refusal::TotalsUnmirrored);
@@ -209,7 +208,7 @@ fn check_states(
     imaged: bool,
 ) -> Check
     requires { Mirrors n mirrors.now × HasTables imaged n (length stay.now) (length moved.now) (length move_half_ticks.now) (length sb.now) (length mb.now) (length tb.now) }
-    ensures { result ≡ first_from (check_state n (λ k. get_or (given mirrors) k 0) (tables_in imaged (given stay) (given moved) (given move_half_ticks) (given sb) (given mb) (given tb))) 0 n }
+    ensures { result ≡ first_from (check_state n (λ k. get_or mirrors.now k 0) (tables_in imaged stay.now moved.now move_half_ticks.now sb.now mb.now tb.now)) 0 n }
 {
     let mut i: usize = 0;
     while i < n {
@@ -255,7 +254,7 @@ pub fn check_counts(
     imaged: bool,
 ) -> Check
     requires { Mirrors n mirrors.now × HasTables imaged n (length stay.now) (length moved.now) (length move_half_ticks.now) (length sb.now) (length mb.now) (length tb.now) }
-    ensures { result ≡ check_counts n (λ k. get_or (given mirrors) k 0) (counts_of counters (tables_in imaged (given stay) (given moved) (given move_half_ticks) (given sb) (given mb) (given tb))) }
+    ensures { result ≡ check_counts n (λ k. get_or mirrors.now k 0) (counts_of counters (tables_in imaged stay.now moved.now move_half_ticks.now sb.now mb.now tb.now)) }
 {
     if counters_over(counters) {
         return Check::Refused(Refusal::CountLimit);
@@ -307,7 +306,7 @@ pub fn check_tables(
     imaged: bool,
 ) -> Check
     requires { Valid config × HasTables imaged (states config) (length stay.now) (length moved.now) (length move_half_ticks.now) (length sb.now) (length mb.now) (length tb.now) }
-    ensures { result ≡ check_mirrored config (counts_of counters (tables_in imaged (given stay) (given moved) (given move_half_ticks) (given sb) (given mb) (given tb))) }
+    ensures { result ≡ check_mirrored config (counts_of counters (tables_in imaged stay.now moved.now move_half_ticks.now sb.now mb.now tb.now)) }
 {
     let n = config::inner::state_count(config);
     let mirrors = mirrors_of(config);
@@ -334,7 +333,7 @@ pub fn check_mirrored_counts(
     move_half_ticks: &[i64],
 ) -> Check
     requires { Valid config × (length stay.now ≡ states config * states config) × (length moved.now ≡ states config * states config) × (length move_half_ticks.now ≡ states config) }
-    ensures { result ≡ check_mirrored config (counts_of counters (tables (given stay) (given moved) (given move_half_ticks))) }
+    ensures { result ≡ check_mirrored config (counts_of counters (tables stay.now moved.now move_half_ticks.now)) }
 {
     let none = [0u8; 1];
     check_tables(

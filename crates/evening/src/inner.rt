@@ -1,8 +1,7 @@
 // The work by value, and the functions that it is made of. `calibrate_micro_price` asks nothing; where another has a `requires`, each caller proves it.
 ghost use Rattle.std.specs.Prelude.{◌≡◌, false, List, ℕ, length};
-ghost use Rattle.basics.specs.Loan.{given, final};
 ghost use Rattle.refusals.specs.declared.Check.TheVariants.{Fine};
-ghost use Rattle.calibrator.specs.Record.{came, remains};
+ghost use Rattle.calibrator.specs.Record.{memory};
 ghost use Rattle.calibrator.specs.Observe.{check_table_lengths, fresh};
 ghost use Rattle.recording.specs.Recording.{quotes_of, uneven};
 ghost use Rattle.recording.specs.Window.{check_window, window_of};
@@ -62,7 +61,7 @@ fn count_part(
     part: &[u64],
 ) -> Recorded
     requires { (check_table_lengths config (length stay.old) (length moved.old) (length move_half_ticks.old) ≡ Fine) × (uneven part.now ≡ false) }
-    ensures { recorded_as result.answer result.invalid (remains result.next stay moved move_half_ticks) ≡ recorded config (quotes_of (given part)) 0 (fresh config) }
+    ensures { recorded_as result.answer result.invalid (memory result.next stay.new moved.new move_half_ticks.new) ≡ recorded config (quotes_of part.now) 0 (fresh config) }
 {
     let new = calibrator::inner::new(rec, stay, moved, move_half_ticks, config);
     let begun = new.next;
@@ -81,8 +80,8 @@ fn count_and_fit(
     model: &mut [u64],
 ) -> EveningDone
     requires { (check_table_lengths config (length stay.old) (length moved.old) (length move_half_ticks.old) ≡ Fine) × (uneven part.now ≡ false) }
-    ensures { end_evening result.answer (remains result.next stay moved move_half_ticks) (final model) (final scratch)
-        ≡ counted config (recorded config (quotes_of (given part)) 0 (fresh config)) (given model) (given scratch) }
+    ensures { end_evening result.answer (memory result.next stay.new moved.new move_half_ticks.new) model.new scratch.new
+        ≡ counted config (recorded config (quotes_of part.now) 0 (fresh config)) model.old scratch.old }
 {
     let done = count_part(rec, stay, moved, move_half_ticks, config, part);
     let observed = done.answer;
@@ -128,8 +127,8 @@ pub fn calibrate_micro_price(
     scratch: &mut [f64],
     model: &mut [u64],
 ) -> EveningDone
-    ensures { end_evening result.answer (remains result.next stay moved move_half_ticks) (final model) (final scratch)
-        ≡ calibrated config (came rec stay moved move_half_ticks) (given recording) start end (given model) (given scratch) }
+    ensures { end_evening result.answer (memory result.next stay.new moved.new move_half_ticks.new) model.new scratch.new
+        ≡ calibrated config (memory rec stay.old moved.old move_half_ticks.old) recording.now start end model.old scratch.old }
 {
     let window = recording::window_of(recording, start, end);
     let k = check_evening(

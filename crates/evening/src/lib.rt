@@ -8,8 +8,7 @@ use refusals::{Check, Refusal};
 pub mod inner;
 
 ghost use Rattle.std.specs.Prelude.{◌≡◌};
-ghost use Rattle.basics.specs.Loan.{given, final};
-ghost use Rattle.calibrator.specs.Record.{came, remains};
+ghost use Rattle.calibrator.specs.Record.{memory};
 ghost use Rattle.evening.specs.Evening.{end_evening, calibrated};
 
 // A fit's answer, nothing refused or 16 to 19, and the number of invalid quotes.
@@ -47,8 +46,8 @@ pub fn calibrate_micro_price(
     scratch: &mut [f64],
     model: &mut [u64],
 ) -> Evening
-    ensures { end_evening result (remains (final rec) stay moved move_half_ticks) (final model) (final scratch)
-        ≡ calibrated config (came (given rec) stay moved move_half_ticks) (given recording) start end (given model) (given scratch) }
+    ensures { end_evening result (memory rec.new stay.new moved.new move_half_ticks.new) model.new scratch.new
+        ≡ calibrated config (memory rec.old stay.old moved.old move_half_ticks.old) recording.now start end model.old scratch.old }
 {
     let done = inner::calibrate_micro_price(
         *rec,

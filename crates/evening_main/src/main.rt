@@ -3,7 +3,6 @@
 #![tactic(auto)]
 
 ghost use Rattle.std.specs.Prelude.{◌≡◌, length};
-ghost use Rattle.basics.specs.Loan.{given};
 ghost use Rattle.evening_main.specs.Inner.{InputWithin};
 
 use libc::{STDERR_FILENO, STDIN_FILENO, STDOUT_FILENO};
@@ -30,7 +29,7 @@ fn output_buffer() -> [u8; 4350]
 
 // One read; no bytes are the end of the input.
 fn read_some(buffer: &mut [u8]) -> Input
-    ensures { InputWithin (length (given buffer)) result }
+    ensures { InputWithin (length buffer.old) result }
 {
     let got = libc::read(STDIN_FILENO, buffer);
     if got < 0 {
@@ -41,7 +40,7 @@ fn read_some(buffer: &mut [u8]) -> Input
 
 // Reads until the input ends, the buffer is full or a read fails.
 fn read_input(buffer: &mut [u8]) -> Input
-    ensures { InputWithin (length (given buffer)) result }
+    ensures { InputWithin (length buffer.old) result }
 {
     let mut at: usize = 0;
     while at < buffer.len() {

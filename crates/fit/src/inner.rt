@@ -1,6 +1,5 @@
 // Inner functions: for the crates above, not for users. Where one has a `requires`, each caller proves it.
 ghost use Rattle.std.specs.Prelude.{◌≡◌, true, ℕ, ◌+◌, ◌*◌, ◌<◌, ◌≤◌, eqb, ℤ, length, get_or, replicate, List};
-ghost use Rattle.basics.specs.Loan.{given, final};
 ghost use Rattle.floats.specs.Floats.{pos_zero};
 ghost use Rattle.fit_marking.specs.Below.{some_to};
 ghost use Rattle.fit_marking.specs.Marks.{cells_of};
@@ -8,7 +7,7 @@ ghost use Rattle.fit_linear.specs.Inner.{from};
 ghost use Rattle.fit_series.specs.Inner.{sum_at, share_at, solved_g1, Scratch};
 ghost use Rattle.fit_system.specs.Rows.{used};
 ghost use Rattle.fit_system.specs.Inner.{Exact, Marks};
-ghost use Rattle.calibrator.specs.Record.{came};
+ghost use Rattle.calibrator.specs.Record.{memory};
 ghost use Rattle.fit_estimates.specs.Estimates.{solved_at};
 ghost use Rattle.fit.specs.Inner.{given_in, Usable, rows_in, FitEnds};
 ghost use Rattle.fit.specs.Fit.{judged_rows, fit_of, wrong_fit_lengths, fit_refusal, table_of, fit_answer, end_fit, fitted_with, fit_counts};
@@ -22,7 +21,7 @@ use refusals::{Check, Refusal};
 // What scratch has for state i and its mirror m.
 fn solved_in(scratch: &[f64], n: usize, i: usize, m: usize) -> Solved
     requires { Scratch n scratch.now × (i < n) × (m < n) }
-    ensures { result ≡ solved_at (λ k. m) (solved_g1 n (given scratch)) (from (sum_at n) (given scratch)) (from (share_at n) (given scratch)) i }
+    ensures { result ≡ solved_at (λ k. m) (solved_g1 n scratch.now) (from (sum_at n) scratch.now) (from (share_at n) scratch.now) i }
 {
     let w = 2 * n + 2;
     let sum = n * w;
@@ -53,8 +52,8 @@ fn state_estimate(
     i: usize,
 ) -> StateEstimate
     requires { Usable n buckets tick stay.now moved.now mirrors.now × (n ≤ length marks.now) × Scratch n scratch.now × (i < n) }
-    ensures { (least : ℕ) (totals : List ℤ) → Marks (cells_of n least (given stay) (given moved)) (given marks)
-        → result ≡ rows_in n (given_in n buckets tick least (given stay) (given moved) totals (given mirrors)) (given scratch) i }
+    ensures { (least : ℕ) (totals : List ℤ) → Marks (cells_of n least stay.now moved.now) marks.now
+        → result ≡ rows_in n (given_in n buckets tick least stay.now moved.now totals mirrors.now) scratch.now i }
 {
     let solved = solved_in(scratch, n, i, mirrors[i]);
     let observed = fit_marking::observations_of(stay, moved, n, i);
@@ -81,8 +80,8 @@ fn judge_estimates(
     scratch: &[f64],
 ) -> Check
     requires { Usable n buckets tick stay.now moved.now mirrors.now × (n ≤ length marks.now) × Scratch n scratch.now }
-    ensures { (least : ℕ) (totals : List ℤ) → Marks (cells_of n least (given stay) (given moved)) (given marks)
-        → result ≡ fit_answer (judged_rows n (rows_in n (given_in n buckets tick least (given stay) (given moved) totals (given mirrors)) (given scratch))) }
+    ensures { (least : ℕ) (totals : List ℤ) → Marks (cells_of n least stay.now moved.now) marks.now
+        → result ≡ fit_answer (judged_rows n (rows_in n (given_in n buckets tick least stay.now moved.now totals mirrors.now) scratch.now)) }
 {
     let mut found = false;
     let mut i: usize = 0;
@@ -113,8 +112,8 @@ fn write_estimates(
     model: &mut [u64],
 )
     requires { Usable n buckets tick stay.now moved.now mirrors.now × (n ≤ length marks.now) × Scratch n scratch.now × (length model.old ≡ 7 * n) }
-    ensures { (least : ℕ) (totals : List ℤ) → Marks (cells_of n least (given stay) (given moved)) (given marks)
-        → final model ≡ table_of n (rows_in n (given_in n buckets tick least (given stay) (given moved) totals (given mirrors)) (given scratch)) }
+    ensures { (least : ℕ) (totals : List ℤ) → Marks (cells_of n least stay.now moved.now) marks.now
+        → model.new ≡ table_of n (rows_in n (given_in n buckets tick least stay.now moved.now totals mirrors.now) scratch.now) }
 {
     let mut i: usize = 0;
     while i < n {
@@ -127,7 +126,7 @@ fn write_estimates(
 // Whether a state is marked Calibrated.
 fn has_calibrated(marks: &[u64], n: usize) -> bool
     requires { n ≤ length marks.now }
-    ensures { result ≡ some_to n (λ i. eqb (get_or (given marks) i 0) 0) }
+    ensures { result ≡ some_to n (λ i. eqb (get_or marks.now i 0) 0) }
 {
     let mut i: usize = 0;
     while i < n {
@@ -156,8 +155,8 @@ fn fit_marked(
 ) -> Check
     requires { Usable n buckets tick stay.now moved.now mirrors.now × Exact n stay.now moved.now move_half_ticks.now
         × (n ≤ length marks.now) × Scratch n scratch.old × (length model.old ≡ 7 * n) }
-    ensures { (least : ℕ) → let C = cells_of n least (given stay) (given moved) in Marks C (given marks) → some_to n (used C) ≡ true
-        → FitEnds n (fit_of rounds moves (given_in n buckets tick least (given stay) (given moved) (given move_half_ticks) (given mirrors))) (given model) result (final model) }
+    ensures { (least : ℕ) → let C = cells_of n least stay.now moved.now in Marks C marks.now → some_to n (used C) ≡ true
+        → FitEnds n (fit_of rounds moves (given_in n buckets tick least stay.now moved.now move_half_ticks.now mirrors.now)) model.old result model.new }
 {
     let solved = fit_system::solve_system(
         stay,
@@ -198,7 +197,7 @@ fn fit_states(
     model: &mut [u64],
 ) -> Check
     requires { Usable n buckets tick stay.now moved.now mirrors.now × Exact n stay.now moved.now move_half_ticks.now × Scratch n scratch.old × (length model.old ≡ 7 * n) }
-    ensures { FitEnds n (fit_of rounds moves (given_in n buckets tick least (given stay) (given moved) (given move_half_ticks) (given mirrors))) (given model) result (final model) }
+    ensures { FitEnds n (fit_of rounds moves (given_in n buckets tick least stay.now moved.now move_half_ticks.now mirrors.now)) model.old result model.new }
 {
     let mut marks = [1u64; 256];
     fit_marking::mark_no_price_move(stay, moved, n, least, &mut marks);
@@ -222,7 +221,7 @@ fn fit_states(
 }
 
 fn clear(scratch: &mut [f64])
-    ensures { final scratch ≡ replicate (length (given scratch)) pos_zero }
+    ensures { scratch.new ≡ replicate (length scratch.old) pos_zero }
 {
     let mut i: usize = 0;
     while i < scratch.len() {
@@ -249,7 +248,7 @@ fn check_fit(
     scratch: usize,
     model: usize,
 ) -> Check
-    ensures { result ≡ fit_refusal config (came rec stay moved move_half_ticks) scratch model }
+    ensures { result ≡ fit_refusal config (memory rec stay.now moved.now move_half_ticks.now) scratch model }
 {
     let lengths = calibrator::inner::check_table_lengths(
         config,
@@ -279,7 +278,7 @@ pub fn fit_counts_with(
     scratch: &mut [f64],
     model: &mut [u64],
 ) -> Check
-    ensures { end_fit result (final model) (final scratch) ≡ fitted_with rounds moves config (came rec stay moved move_half_ticks) (given model) (given scratch) }
+    ensures { end_fit result model.new scratch.new ≡ fitted_with rounds moves config (memory rec stay.now moved.now move_half_ticks.now) model.old scratch.old }
 {
     let k = check_fit(
         rec,
@@ -323,7 +322,7 @@ pub fn fit_counts(
     scratch: &mut [f64],
     model: &mut [u64],
 ) -> Check
-    ensures { end_fit result (final model) (final scratch) ≡ fit_counts config (came rec stay moved move_half_ticks) (given model) (given scratch) }
+    ensures { end_fit result model.new scratch.new ≡ fit_counts config (memory rec stay.now moved.now move_half_ticks.now) model.old scratch.old }
 {
     fit_counts_with(
         rec,

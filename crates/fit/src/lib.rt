@@ -8,8 +8,7 @@ use refusals::Check;
 pub mod inner;
 
 ghost use Rattle.std.specs.Prelude.{◌≡◌};
-ghost use Rattle.basics.specs.Loan.{given, final};
-ghost use Rattle.calibrator.specs.Record.{came};
+ghost use Rattle.calibrator.specs.Record.{memory};
 ghost use Rattle.fit.specs.Fit.{end_fit, fit_counts};
 
 // Fits the model: writes a row of seven words for each state. Scratch is N × (2 N + 10) floats.
@@ -22,7 +21,7 @@ pub fn fit_counts(
     scratch: &mut [f64],
     model: &mut [u64],
 ) -> Check
-    ensures { end_fit result (final model) (final scratch) ≡ fit_counts config (came (given rec) stay moved move_half_ticks) (given model) (given scratch) }
+    ensures { end_fit result model.new scratch.new ≡ fit_counts config (memory rec.now stay.now moved.now move_half_ticks.now) model.old scratch.old }
 {
     inner::fit_counts(*rec, stay, moved, move_half_ticks, config, scratch, model)
 }

@@ -3,7 +3,6 @@
 ghost use Rattle.std.specs.Prelude.{◌≡◌, ◌⊎◌, ◌≢◌, ◌+◌, ◌-◌, ◌*◌, ◌<◌, ◌≤◌, length};
 ghost use Rattle.std.specs.Float.{binary64};
 ghost use Rattle.std.specs.Float.Ieee.{sub, mul, div};
-ghost use Rattle.basics.specs.Loan.{given, final};
 ghost use Rattle.fit_linear.specs.Arithmetic.{rounded};
 ghost use Rattle.fit_linear.specs.Elimination.{pivot_row, cleared, column_solved, gauss_jordan};
 ghost use Rattle.fit_linear.specs.Inner.{from, rows_of, Eliminated, Filled, Swapped, ClearedRows};
@@ -13,7 +12,7 @@ use super::Solve;
 // The row of the greatest size in column c, from the diagonal down.
 fn find_pivot(rows: &[f64], n: usize, w: usize, c: usize) -> usize
     requires { (c < n) × (n ≤ w) × (n * w ≤ length rows.now) }
-    ensures { (result < n) × (result ≡ pivot_row rounded (rows_of w (given rows)) c (n - (c + 1))) }
+    ensures { (result < n) × (result ≡ pivot_row rounded (rows_of w rows.now) c (n - (c + 1))) }
 {
     let mut best = c;
     let mut most = floats::abs(rows[c * w + c]);
@@ -32,7 +31,7 @@ fn find_pivot(rows: &[f64], n: usize, w: usize, c: usize) -> usize
 // Rows c and p change places.
 fn swap_rows(rows: &mut [f64], w: usize, c: usize, p: usize)
     requires { (c * w + w ≤ length rows.old) × (p * w + w ≤ length rows.old) }
-    ensures { Swapped (c * w) (p * w) w (given rows) (final rows) }
+    ensures { Swapped (c * w) (p * w) w rows.old rows.new }
 {
     if c == p {
         return;
@@ -51,7 +50,7 @@ fn swap_rows(rows: &mut [f64], w: usize, c: usize, p: usize)
 // Divides w floats from `start` on.
 fn divide_row(rows: &mut [f64], w: usize, start: usize, by: f64)
     requires { start + w ≤ length rows.old }
-    ensures { Filled start w (λ k. div binary64 (from start (given rows) k) by) (given rows) (final rows) }
+    ensures { Filled start w (λ k. div binary64 (from start rows.old k) by) rows.old rows.new }
 {
     let mut k = 0;
     while k < w {
@@ -63,7 +62,7 @@ fn divide_row(rows: &mut [f64], w: usize, start: usize, by: f64)
 // A row less `factor` times the row at `top`.
 fn eliminate_row(rows: &mut [f64], w: usize, row: usize, top: usize, factor: f64)
     requires { (row + w ≤ length rows.old) × (top + w ≤ length rows.old) × ((top + w ≤ row) ⊎ (row + w ≤ top)) }
-    ensures { Filled row w (λ k. sub binary64 (from row (given rows) k) (mul binary64 factor (from top (given rows) k))) (given rows) (final rows) }
+    ensures { Filled row w (λ k. sub binary64 (from row rows.old k) (mul binary64 factor (from top rows.old k))) rows.old rows.new }
 {
     let mut k = 0;
     while k < w {
@@ -75,7 +74,7 @@ fn eliminate_row(rows: &mut [f64], w: usize, row: usize, top: usize, factor: f64
 // Clears column c of row r by row c; a zero factor skips the row.
 fn clear_row(rows: &mut [f64], w: usize, c: usize, r: usize)
     requires { (c < w) × (c * w + w ≤ length rows.old) × (r * w + w ≤ length rows.old) × (c ≢ r) }
-    ensures { Filled (r * w) w (cleared rounded (rows_of w (given rows) r c) (rows_of w (given rows) r) (rows_of w (given rows) c)) (given rows) (final rows) }
+    ensures { Filled (r * w) w (cleared rounded (rows_of w rows.old r c) (rows_of w rows.old r) (rows_of w rows.old c)) rows.old rows.new }
 {
     let row = r * w;
     let factor = rows[row + c];
@@ -88,7 +87,7 @@ fn clear_row(rows: &mut [f64], w: usize, c: usize, r: usize)
 // Clears column c of rows lo to hi, which lie all below or all above row c: the compiler needs it to see that the two rows are apart.
 fn clear_rows(rows: &mut [f64], w: usize, c: usize, lo: usize, hi: usize)
     requires { (c < w) × (lo ≤ hi) × (c * w + w ≤ length rows.old) × (hi * w ≤ length rows.old) × ((c < lo) ⊎ (hi ≤ c)) }
-    ensures { ClearedRows w c lo hi (given rows) (final rows) }
+    ensures { ClearedRows w c lo hi rows.old rows.new }
 {
     let mut r = lo;
     while r < hi {
@@ -100,7 +99,7 @@ fn clear_rows(rows: &mut [f64], w: usize, c: usize, lo: usize, hi: usize)
 // Solves column c.
 fn reduce_column(rows: &mut [f64], n: usize, w: usize, c: usize) -> Solve
     requires { (c < n) × (n ≤ w) × (n * w ≤ length rows.old) }
-    ensures { Eliminated n w (column_solved rounded n (rows_of w (given rows)) c) (given rows) result (final rows) }
+    ensures { Eliminated n w (column_solved rounded n (rows_of w rows.old) c) rows.old result rows.new }
 {
     let best = find_pivot(rows, n, w, c);
     if floats::abs(rows[best * w + c]) < 1e-12 {
@@ -118,7 +117,7 @@ fn reduce_column(rows: &mut [f64], n: usize, w: usize, c: usize) -> Solve
 // Reduces the first n columns of n rows of w floats to the identity, in place.
 pub fn gauss_jordan(rows: &mut [f64], n: usize, w: usize) -> Solve
     requires { (n ≤ w) × (n * w ≤ length rows.old) }
-    ensures { Eliminated n w (gauss_jordan rounded n (rows_of w (given rows))) (given rows) result (final rows) }
+    ensures { Eliminated n w (gauss_jordan rounded n (rows_of w rows.old)) rows.old result rows.new }
 {
     let mut c = 0;
     while c < n {

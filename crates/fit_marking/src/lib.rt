@@ -3,7 +3,6 @@
 #![tactic(auto)]
 
 ghost use Rattle.std.specs.Prelude.{◌≡◌, true, false, ◌+◌, ◌*◌, ◌<◌, ◌≤◌, length};
-ghost use Rattle.basics.specs.Loan.{given, final};
 ghost use Rattle.fit_marking.specs.Below.{sum_to};
 ghost use Rattle.basics.specs.Lists.{cell_at};
 ghost use Rattle.basics.specs.Domain.{counter_limit};
@@ -13,7 +12,7 @@ ghost use Rattle.fit_marking.specs.Inner.{has_positive, leads_out, first_mark, F
 // The sum of row x of a table of n columns.
 fn row_sum(table: &[u64], n: usize, x: usize) -> u64
     requires { (x * n + n ≤ length table.now) × (sum_to n (cell_at n table.now x) ≤ 2 * counter_limit) }
-    ensures { result ≡ sum_to n (cell_at n (given table) x) }
+    ensures { result ≡ sum_to n (cell_at n table.now x) }
 {
     let start = x * n;
     let mut sum: u64 = 0;
@@ -28,7 +27,7 @@ fn row_sum(table: &[u64], n: usize, x: usize) -> u64
 // The observations of state x, which do not depend on the least.
 pub fn observations_of(stay: &[u64], moved: &[u64], n: usize, x: usize) -> u64
     requires { Fitting n stay.now moved.now × (x < n) }
-    ensures { result ≡ observations (cells_of n 0 (given stay) (given moved)) x }
+    ensures { result ≡ observations (cells_of n 0 stay.now moved.now) x }
 {
     row_sum(stay, n, x) + row_sum(moved, n, x)
 }
@@ -36,7 +35,7 @@ pub fn observations_of(stay: &[u64], moved: &[u64], n: usize, x: usize) -> u64
 // Whether a cell of row x is positive.
 fn has_positive(table: &[u64], n: usize, x: usize) -> bool
     requires { x * n + n ≤ length table.now }
-    ensures { result ≡ has_positive n (given table) x }
+    ensures { result ≡ has_positive n table.now x }
 {
     let start = x * n;
     let mut j: usize = 0;
@@ -52,7 +51,7 @@ fn has_positive(table: &[u64], n: usize, x: usize) -> bool
 // Whether a positive stay cell leads from x to a state with mark 0.
 fn leads_out(stay: &[u64], marks: &[u64], n: usize, x: usize) -> bool
     requires { (x * n + n ≤ length stay.now) × (n ≤ length marks.now) }
-    ensures { result ≡ leads_out n (given stay) (given marks) x }
+    ensures { result ≡ leads_out n stay.now marks.now x }
 {
     let start = x * n;
     let mut j: usize = 0;
@@ -68,7 +67,7 @@ fn leads_out(stay: &[u64], marks: &[u64], n: usize, x: usize) -> bool
 // The mark of x by its own rows.
 fn first_mark(stay: &[u64], moved: &[u64], n: usize, least: u64, x: usize) -> u64
     requires { Fitting n stay.now moved.now × (x < n) }
-    ensures { result ≡ first_mark n least (given stay) (given moved) x }
+    ensures { result ≡ first_mark n least stay.now moved.now x }
 {
     if observations_of(stay, moved, n, x) < least {
         return 1;
@@ -81,7 +80,7 @@ fn first_mark(stay: &[u64], moved: &[u64], n: usize, least: u64, x: usize) -> u6
 
 fn first_marks(stay: &[u64], moved: &[u64], n: usize, least: u64, marks: &mut [u64])
     requires { Fitting n stay.now moved.now × (n ≤ length marks.old) }
-    ensures { FirstMarks n least (given stay) (given moved) (given marks) (final marks) }
+    ensures { FirstMarks n least stay.now moved.now marks.old marks.new }
 {
     let mut x: usize = 0;
     while x < n {
@@ -94,7 +93,7 @@ fn first_marks(stay: &[u64], moved: &[u64], n: usize, least: u64, marks: &mut [u
 // Frees x if its mark is 2 and it leads out, and says whether it did.
 fn look_at(stay: &[u64], n: usize, marks: &mut [u64], x: usize) -> bool
     requires { (x < n) × (n * n ≤ length stay.now) × (n ≤ length marks.old) }
-    ensures { (result ≡ true → Freed n (given stay) (given marks) (final marks) x) × (result ≡ false → Left n (given stay) (given marks) (final marks) x) }
+    ensures { (result ≡ true → Freed n stay.now marks.old marks.new x) × (result ≡ false → Left n stay.now marks.old marks.new x) }
 {
     if marks[x] != 2 {
         return false;
@@ -109,7 +108,7 @@ fn look_at(stay: &[u64], n: usize, marks: &mut [u64], x: usize) -> bool
 // One turn through the states, which says whether it freed any.
 fn turn(stay: &[u64], n: usize, marks: &mut [u64]) -> bool
     requires { (n * n ≤ length stay.now) × (n ≤ length marks.old) }
-    ensures { Turned n (given stay) (given marks) (final marks) result }
+    ensures { Turned n stay.now marks.old marks.new result }
 {
     let mut freed = false;
     let mut x: usize = 0;
@@ -125,7 +124,7 @@ fn turn(stay: &[u64], n: usize, marks: &mut [u64]) -> bool
 // Marks n states; marks after theirs are unchanged.
 pub fn mark_no_price_move(stay: &[u64], moved: &[u64], n: usize, least: u64, marks: &mut [u64])
     requires { Fitting n stay.now moved.now × (n ≤ length marks.old) }
-    ensures { Marked (cells_of n least (given stay) (given moved)) (given marks) (final marks) }
+    ensures { Marked (cells_of n least stay.now moved.now) marks.old marks.new }
 {
     first_marks(stay, moved, n, least, marks);
     while turn(stay, n, marks) {}

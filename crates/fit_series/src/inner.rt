@@ -3,7 +3,6 @@
 ghost use Rattle.std.specs.Prelude.{◌≡◌, List, ℕ, ◌+◌, ◌*◌, ◌<◌, ◌≤◌, length, Float};
 ghost use Rattle.std.specs.Float.{binary64};
 ghost use Rattle.std.specs.Float.Ieee.{add};
-ghost use Rattle.basics.specs.Loan.{given, final};
 ghost use Rattle.floats.specs.Floats as Floats;
 ghost use Rattle.fit_linear.specs.Arithmetic.{rounded};
 ghost use Rattle.fit_linear.specs.Inner.{from, rows_of, Filled};
@@ -15,7 +14,7 @@ use super::Sum;
 // The dot product of n floats from i on and from j on, left to right.
 fn dot_product(s: &[f64], i: usize, j: usize, n: usize) -> f64
     requires { (i + n ≤ length s.now) × (j + n ≤ length s.now) }
-    ensures { result ≡ dot rounded n (from i (given s)) (from j (given s)) }
+    ensures { result ≡ dot rounded n (from i s.now) (from j s.now) }
 {
     let mut sum = -0.0;
     let mut k = 0;
@@ -38,7 +37,7 @@ pub struct Four {
 // The dot products of four rows, w apart from i on, with n floats from j on: side by side, each left to right.
 fn dot_four(s: &[f64], i: usize, w: usize, j: usize, n: usize) -> Four
     requires { (i + 3 * w + n ≤ length s.now) × (j + n ≤ length s.now) }
-    ensures { FourDots i w j n (given s) result }
+    ensures { FourDots i w j n s.now result }
 {
     let i1 = i + w;
     let i2 = i + 2 * w;
@@ -62,7 +61,7 @@ fn dot_four(s: &[f64], i: usize, w: usize, j: usize, n: usize) -> Four
 // B times the vector of n floats from v on, into next: four rows at a time. Answers the number of rows done.
 fn multiply_fours(s: &mut [f64], n: usize, v: usize) -> usize
     requires { Scratch n s.old × (v + n ≤ next_at n) }
-    ensures { (result ≤ n) × ProductTo n v result (given s) (final s) }
+    ensures { (result ≤ n) × ProductTo n v result s.old s.new }
 {
     let w = 2 * n + 2;
     let next = n * w + 3 * n;
@@ -81,7 +80,7 @@ fn multiply_fours(s: &mut [f64], n: usize, v: usize) -> usize
 // The rows of B from `done` on.
 fn multiply_rest(s: &mut [f64], n: usize, v: usize, done: usize)
     requires { Scratch n s.old × (v + n ≤ next_at n) × (done ≤ n) }
-    ensures { (l : List Float) → ProductTo n v done l (given s) → ProductTo n v n l (final s) }
+    ensures { (l : List Float) → ProductTo n v done l s.old → ProductTo n v n l s.new }
 {
     let w = 2 * n + 2;
     let next = n * w + 3 * n;
@@ -95,7 +94,7 @@ fn multiply_rest(s: &mut [f64], n: usize, v: usize, done: usize)
 // B times the vector of n floats from v on, into next.
 fn multiply(s: &mut [f64], n: usize, v: usize)
     requires { Scratch n s.old × (v + n ≤ next_at n) }
-    ensures { ProductTo n v n (given s) (final s) }
+    ensures { ProductTo n v n s.old s.new }
 {
     let done = multiply_fours(s, n, v);
     multiply_rest(s, n, v, done);
@@ -104,7 +103,7 @@ fn multiply(s: &mut [f64], n: usize, v: usize)
 // n places from `to` on become column c of n rows of w; with w = 1, the n places from c on.
 fn copy_column(s: &mut [f64], n: usize, w: usize, c: usize, to: usize)
     requires { Column n w c to s.old }
-    ensures { Filled to n (λ k. rows_of w (given s) k c) (given s) (final s) }
+    ensures { Filled to n (λ k. rows_of w s.old k c) s.old s.new }
 {
     let mut k = 0;
     while k < n {
@@ -116,7 +115,7 @@ fn copy_column(s: &mut [f64], n: usize, w: usize, c: usize, to: usize)
 // n places from `to` on become column c of n rows of w plus the n places from v on.
 fn add_column(s: &mut [f64], n: usize, w: usize, c: usize, v: usize, to: usize)
     requires { Column n w c to s.old × (to + n ≤ v) × (v + n ≤ length s.old) }
-    ensures { Filled to n (λ k. add binary64 (rows_of w (given s) k c) (from v (given s) k)) (given s) (final s) }
+    ensures { Filled to n (λ k. add binary64 (rows_of w s.old k c) (from v s.old k)) s.old s.new }
 {
     let mut k = 0;
     while k < n {
@@ -128,7 +127,7 @@ fn add_column(s: &mut [f64], n: usize, w: usize, c: usize, v: usize, to: usize)
 // The largest size of the n places from v on.
 fn largest_of(s: &[f64], n: usize, v: usize) -> f64
     requires { v + n ≤ length s.now }
-    ensures { result ≡ largest rounded n (from v (given s)) }
+    ensures { result ≡ largest rounded n (from v s.now) }
 {
     let mut largest = 0.0;
     let mut k = 0;
@@ -142,7 +141,7 @@ fn largest_of(s: &[f64], n: usize, v: usize) -> f64
 // Clamps the n places from v on to 0..1.
 fn clamp_part(s: &mut [f64], n: usize, v: usize)
     requires { v + n ≤ length s.old }
-    ensures { Filled v n (λ k. Floats.clamp (from v (given s) k)) (given s) (final s) }
+    ensures { Filled v n (λ k. Floats.clamp (from v s.old k)) s.old s.new }
 {
     let mut k = 0;
     while k < n {
@@ -154,7 +153,7 @@ fn clamp_part(s: &mut [f64], n: usize, v: usize)
 // The next term, added on. Answers its largest size.
 fn add_term(s: &mut [f64], n: usize) -> f64
     requires { Scratch n s.old }
-    ensures { TermAdded n (given s) result (final s) }
+    ensures { TermAdded n s.old result s.new }
 {
     let sum = n * (2 * n + 2);
     let term = sum + 2 * n;
@@ -168,7 +167,7 @@ fn add_term(s: &mut [f64], n: usize) -> f64
 // Adds terms on to a sum.
 fn add_terms(s: &mut [f64], n: usize, rounds: usize) -> Sum
     requires { Scratch n s.old }
-    ensures { Summed n rounds (summed rounded n (solved_b n (given s)) rounds (from (sum_at n) (given s)) (from (term_at n) (given s))) (given s) result (final s) }
+    ensures { Summed n rounds (summed rounded n (solved_b n s.old) rounds (from (sum_at n) s.old) (from (term_at n) s.old)) s.old result s.new }
 {
     let mut left = rounds;
     while 0 < left {
@@ -187,7 +186,7 @@ fn add_terms(s: &mut [f64], n: usize, rounds: usize) -> Sum
 // The series from G1, with at most so many rounds (document 01: 10,000).
 pub fn sum_series(scratch: &mut [f64], n: usize, rounds: usize) -> Sum
     requires { Scratch n scratch.old }
-    ensures { Summed n rounds (sum_series rounded n (solved_b n (given scratch)) (solved_g1 n (given scratch)) rounds) (given scratch) result (final scratch) }
+    ensures { Summed n rounds (sum_series rounded n (solved_b n scratch.old) (solved_g1 n scratch.old) rounds) scratch.old result scratch.new }
 {
     let w = 2 * n + 2;
     let sum = n * w;
@@ -199,7 +198,7 @@ pub fn sum_series(scratch: &mut [f64], n: usize, rounds: usize) -> Sum
 // One round of the share.
 fn next_share(s: &mut [f64], n: usize)
     requires { Scratch n s.old }
-    ensures { let p = times rounded n (solved_b n (given s)) (from (share_at n) (given s)) in Shared n 1 (plus rounded (solved_f n (given s)) p) p (given s) (final s) }
+    ensures { let p = times rounded n (solved_b n s.old) (from (share_at n) s.old) in Shared n 1 (plus rounded (solved_f n s.old) p) p s.old s.new }
 {
     let w = 2 * n + 2;
     let share = n * w + n;
@@ -211,7 +210,7 @@ fn next_share(s: &mut [f64], n: usize)
 // Rounds of the share, from F.
 fn add_shares(s: &mut [f64], n: usize, rounds: usize)
     requires { Scratch n s.old × ((k : ℕ) → k < n → from (share_at n) s.old k ≡ solved_f n s.old k) }
-    ensures { let B = solved_b n (given s) in let F = solved_f n (given s) in Shared n rounds (share_after rounded n B F rounds) (last_product n B F rounds) (given s) (final s) }
+    ensures { let B = solved_b n s.old in let F = solved_f n s.old in Shared n rounds (share_after rounded n B F rounds) (last_product n B F rounds) s.old s.new }
 {
     let mut done = 0;
     while done < rounds {
@@ -223,8 +222,8 @@ fn add_shares(s: &mut [f64], n: usize, rounds: usize)
 // The probability of reaching a fallback state within so many moves of the mid (document 01: 10).
 pub fn fallback_within_moves(scratch: &mut [f64], n: usize, rounds: usize)
     requires { Scratch n scratch.old }
-    ensures { let B = solved_b n (given scratch) in let F = solved_f n (given scratch) in
-        Shared n rounds (fallback_within rounded n B F rounds) (last_product n B F rounds) (given scratch) (final scratch) }
+    ensures { let B = solved_b n scratch.old in let F = solved_f n scratch.old in
+        Shared n rounds (fallback_within rounded n B F rounds) (last_product n B F rounds) scratch.old scratch.new }
 {
     let w = 2 * n + 2;
     let share = n * w + n;

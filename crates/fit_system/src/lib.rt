@@ -5,7 +5,6 @@
 ghost use Rattle.std.specs.Prelude.{◌≡◌, true, cond, ℕ, ◌+◌, ◌*◌, ◌<◌, ◌≤◌, eqb, pos, length};
 ghost use Rattle.std.specs.Float.{binary64};
 ghost use Rattle.std.specs.Float.Ieee.{in_float, sub, neg};
-ghost use Rattle.basics.specs.Loan.{given, final};
 ghost use Rattle.floats.specs.Floats.{one, pos_zero, exact_whole};
 ghost use Rattle.model.specs.Status.{status_number};
 ghost use Rattle.basics.specs.Lists.{cell_at};
@@ -34,7 +33,7 @@ fn part_of(count: u64, observed: u64, is_used: bool) -> f64
 // The move total of x by its observations, or zero.
 fn total_part(move_half_ticks: &[i64], x: usize, observed: u64, is_used: bool) -> f64
     requires { (x < length move_half_ticks.now) × (in_float binary64 (total_of move_half_ticks.now x) ≡ true) × (observed ≤ exact_whole) }
-    ensures { result ≡ part is_used (total_of (given move_half_ticks) x) observed }
+    ensures { result ≡ part is_used (total_of move_half_ticks.now x) observed }
 {
     if is_used {
         return floats::inner::from_i64(move_half_ticks[x]) / floats::inner::from_u64(observed);
@@ -73,7 +72,7 @@ fn fill_stay(
     to: usize,
 )
     requires { (x * n + n ≤ length stay.now) × ((k : ℕ) → k < n → cell_at n stay.now x k ≤ exact_whole) × (observed ≤ exact_whole) × (to + n ≤ length scratch.old) }
-    ensures { Filled to n (λ k. let q = part is_used (pos (cell_at n (given stay) x k)) observed in cond (eqb x k) (sub binary64 one q) (neg q)) (given scratch) (final scratch) }
+    ensures { Filled to n (λ k. let q = part is_used (pos (cell_at n stay.now x k)) observed in cond (eqb x k) (sub binary64 one q) (neg q)) scratch.old scratch.new }
 {
     let row = x * n;
     let mut k: usize = 0;
@@ -95,7 +94,7 @@ fn fill_moved(
     to: usize,
 )
     requires { (x * n + n ≤ length moved.now) × ((k : ℕ) → k < n → cell_at n moved.now x k ≤ exact_whole) × (observed ≤ exact_whole) × (to + n ≤ length scratch.old) }
-    ensures { Filled to n (λ k. part is_used (pos (cell_at n (given moved) x k)) observed) (given scratch) (final scratch) }
+    ensures { Filled to n (λ k. part is_used (pos (cell_at n moved.now x k)) observed) scratch.old scratch.new }
 {
     let row = x * n;
     let mut k: usize = 0;
@@ -116,8 +115,8 @@ fn fill_row(
     scratch: &mut [f64],
 )
     requires { Exact n stay.now moved.now move_half_ticks.now × (x < n) × (n * width n ≤ length scratch.old) }
-    ensures { (least : ℕ) → let C = cells_of n least (given stay) (given moved) in mark ≡ status_number (mark_of C x)
-        → Filled (x * width n) (width n) (system_of C (total_of (given move_half_ticks)) x) (given scratch) (final scratch) }
+    ensures { (least : ℕ) → let C = cells_of n least stay.now moved.now in mark ≡ status_number (mark_of C x)
+        → Filled (x * width n) (width n) (system_of C (total_of move_half_ticks.now) x) scratch.old scratch.new }
 {
     let observed = fit_marking::observations_of(stay, moved, n, x);
     let is_used = mark == 0;
@@ -138,8 +137,8 @@ fn fill_system(
     scratch: &mut [f64],
 )
     requires { Exact n stay.now moved.now move_half_ticks.now × (n ≤ length marks.now) × (n * width n ≤ length scratch.old) }
-    ensures { (least : ℕ) → let C = cells_of n least (given stay) (given moved) in Marks C (given marks)
-        → Becomes n (width n) (system_of C (total_of (given move_half_ticks))) (given scratch) (final scratch) }
+    ensures { (least : ℕ) → let C = cells_of n least stay.now moved.now in Marks C marks.now
+        → Becomes n (width n) (system_of C (total_of move_half_ticks.now)) scratch.old scratch.new }
 {
     let mut x: usize = 0;
     while x < n {
@@ -160,8 +159,8 @@ pub fn solve_system(
     scratch: &mut [f64],
 ) -> Check
     requires { Exact n stay.now moved.now move_half_ticks.now × (n ≤ length marks.now) × Scratch n scratch.old }
-    ensures { (least : ℕ) → let C = cells_of n least (given stay) (given moved) in Marks C (given marks)
-        → SolvedIn n (solution_of rounds moves C (total_of (given move_half_ticks))) result (final scratch) }
+    ensures { (least : ℕ) → let C = cells_of n least stay.now moved.now in Marks C marks.now
+        → SolvedIn n (solution_of rounds moves C (total_of move_half_ticks.now)) result scratch.new }
 {
     fill_system(stay, moved, move_half_ticks, n, marks, scratch);
     let Solve::Solved = fit_linear::inner::gauss_jordan(scratch, n, 2 * n + 2) else {

@@ -5,14 +5,13 @@ use Rattle.std.specs.Prelude.{ℕ, zero, suc, ◌+◌, ◌*◌, ◌≡◌, Bool,
 use Rattle.std.proofs.Math.Option.{Option, none, some}
 use Rattle.std.proofs.lemmas.List.Edits.{sets}
 use Rattle.basics.specs.Lists.{all_from}
-use Rattle.basics.specs.Loan.{Loan, given, final}
 use Rattle.refusals.specs.Refusals.{number_of, check_number}
 use Rattle.config.specs.Configuration.{valid, same_config}
 use Rattle.config.specs.declared.MicroPriceConfig.{MicroPriceConfig}
 use Rattle.quotes.specs.declared.TopOfBook.{TopOfBook}
 use Rattle.tally.specs.Entries.{Tables}
 use Rattle.tally.specs.Rules.{Memory}
-use Rattle.calibrator.specs.Record.{memory, came, remains}
+use Rattle.calibrator.specs.Record.{memory}
 use Rattle.calibrator.specs.Observe.{refuses}
 use Rattle.calibrator.specs.declared.Previous.{Previous}
 use Rattle.calibrator.specs.declared.Record.{Record}
@@ -63,13 +62,6 @@ pub record Site : Type 0 where
 
 abbrev pub site : Record → List ℕ → List ℕ → List ℤ → List ℕ → Site
 site r s m t room = record { memory = memory r s m t; room = room }
-
--- as `came` and `remains` of a calibrator (calibrator, specs/Record.antt)
-abbrev pub site_came : Record → Loan (List ℕ) → Loan (List ℕ) → Loan (List ℤ) → Loan (List ℕ) → Site
-site_came r s m t room = record { memory = came r s m t; room = given room }
-
-abbrev pub site_remains : Record → Loan (List ℕ) → Loan (List ℕ) → Loan (List ℤ) → Loan (List ℕ) → Site
-site_remains r s m t room = record { memory = remains r s m t; room = final room }
 
 abbrev pub call_at : List ℕ → ℕ → Site → Call
 call_at w k s =

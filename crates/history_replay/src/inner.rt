@@ -1,10 +1,9 @@
 // The work by value, for Rattle callers, and the functions that it is made of. `replay` asks nothing; where another has a `requires`, each caller proves it.
 ghost use Rattle.std.specs.Prelude.{◌≡◌, true, ◌+◌, ◌*◌, ◌≤◌, ◌<◌, length};
-ghost use Rattle.basics.specs.Loan.{given, final};
 ghost use Rattle.tally.specs.Entries.{tables};
-ghost use Rattle.calibrator.specs.Record.{came, remains};
+ghost use Rattle.calibrator.specs.Record.{memory};
 ghost use Rattle.history.specs.Calls.{quote, restore, restores};
-ghost use Rattle.history_replay.specs.Replay.{call_quote, is_call, well_coded, site_came, site_remains, is_foreign, answer_number, stepped_to, stepped, Promised, replay as replays};
+ghost use Rattle.history_replay.specs.Replay.{call_quote, is_call, well_coded, site, is_foreign, answer_number, stepped_to, stepped, Promised, replay as replays};
 ghost use Rattle.history_replay.specs.Inner.{CallEnds};
 
 use super::{ReplayDone, Replayed};
@@ -34,7 +33,7 @@ fn is_foreign(
     moved: &[u64],
     move_half_ticks: &[i64],
 ) -> bool
-    ensures { result ≡ is_foreign config (given bytes) (tables (given stay) (given moved) (given move_half_ticks)) }
+    ensures { result ≡ is_foreign config bytes.now (tables stay.now moved.now move_half_ticks.now) }
 {
     if bytes.len() < image_layout::LEAST {
         return false;
@@ -52,7 +51,7 @@ fn is_foreign(
 
 fn is_call(calls: &[u64], k: usize, room: usize) -> bool
     requires { 6 * k + 6 ≤ length calls.now }
-    ensures { result ≡ is_call room (given calls) k }
+    ensures { result ≡ is_call room calls.now k }
 {
     let at = 6 * k;
     let kind = calls[at];
@@ -71,7 +70,7 @@ fn is_call(calls: &[u64], k: usize, room: usize) -> bool
 }
 
 fn is_well_coded(calls: &[u64], room: usize, answers: usize) -> bool
-    ensures { result ≡ well_coded room answers (given calls) }
+    ensures { result ≡ well_coded room answers calls.now }
 {
     if calls.len() % 6 != 0 {
         return false;
@@ -91,7 +90,7 @@ fn is_well_coded(calls: &[u64], room: usize, answers: usize) -> bool
 
 fn quote_at(calls: &[u64], k: usize) -> TopOfBook
     requires { 6 * k + 6 ≤ length calls.now }
-    ensures { result ≡ call_quote (given calls) k }
+    ensures { result ≡ call_quote calls.now k }
 {
     let at = 6 * k;
     TopOfBook {
@@ -113,7 +112,7 @@ fn replay_quote(
     config: MicroPriceConfig,
     next: TopOfBook,
 ) -> CallDone
-    ensures { CallEnds config (came rec stay moved move_half_ticks) (quote next) result.answer (remains result.next stay moved move_half_ticks) }
+    ensures { CallEnds config (memory rec stay.old moved.old move_half_ticks.old) (quote next) result.answer (memory result.next stay.new moved.new move_half_ticks.new) }
 {
     let done = calibrator::inner::observe(rec, stay, moved, move_half_ticks, config, next);
     let answer = done.answer;
@@ -143,7 +142,7 @@ fn replay_restore(
     config: MicroPriceConfig,
     bytes: &[u8],
 ) -> CallDone
-    ensures { let m = came rec stay moved move_half_ticks in CallEnds config m (restore (given bytes) m) result.answer (remains result.next stay moved move_half_ticks) }
+    ensures { let m = memory rec stay.old moved.old move_half_ticks.old in CallEnds config m (restore bytes.now m) result.answer (memory result.next stay.new moved.new move_half_ticks.new) }
 {
     if is_foreign(config, bytes, stay, moved, move_half_ticks) {
         return CallDone {
@@ -172,7 +171,7 @@ fn replay_call(
     room: &mut [u8],
 ) -> CallDone
     requires { (6 * k + 6 ≤ length calls.now) × (is_call (length room.old) calls.now k ≡ true) }
-    ensures { stepped_to result.answer (site_remains result.next stay moved move_half_ticks room) ≡ stepped config (given calls) k (site_came rec stay moved move_half_ticks room) }
+    ensures { stepped_to result.answer (site result.next stay.new moved.new move_half_ticks.new room.new) ≡ stepped config calls.now k (site rec stay.old moved.old move_half_ticks.old room.old) }
 {
     let at = 6 * k;
     let kind = calls[at];
@@ -212,8 +211,8 @@ pub fn replay(
     room: &mut [u8],
     answers: &mut [u64],
 ) -> ReplayDone
-    ensures { Promised config (site_came rec stay moved move_half_ticks room) (given calls) (given answers)
-        (replays result.answer (final answers) (site_remains result.next stay moved move_half_ticks room)) }
+    ensures { Promised config (site rec stay.old moved.old move_half_ticks.old room.old) calls.now answers.old
+        (replays result.answer answers.new (site result.next stay.new moved.new move_half_ticks.new room.new)) }
 {
     if !is_well_coded(calls, room.len(), answers.len()) {
         return ReplayDone {

@@ -6,8 +6,7 @@ use config::MicroPriceConfig;
 
 pub mod inner;
 
-ghost use Rattle.basics.specs.Loan.{given, final};
-ghost use Rattle.history_replay.specs.Replay.{site_came, site_remains, Promised, replay as replays};
+ghost use Rattle.history_replay.specs.Replay.{site, Promised, replay as replays};
 
 // What a replay answers. A bad encoding changes nothing.
 #[derive(Drop)]
@@ -35,8 +34,8 @@ pub fn replay(
     room: &mut [u8],
     answers: &mut [u64],
 ) -> Replayed
-    ensures { Promised config (site_came (given rec) stay moved move_half_ticks room) (given calls) (given answers)
-        (replays result (final answers) (site_remains (final rec) stay moved move_half_ticks room)) }
+    ensures { Promised config (site rec.old stay.old moved.old move_half_ticks.old room.old) calls.now answers.old
+        (replays result answers.new (site rec.new stay.new moved.new move_half_ticks.new room.new)) }
 {
     let done = inner::replay(
         *rec,

@@ -1,10 +1,9 @@
 // The work by value, for Rattle callers, and the functions that it is made of. `save`, `restore` and `check_restore` ask nothing; where another has a `requires`, each caller proves it.
 ghost use Rattle.std.specs.Prelude.{◌≡◌, false, ◌+◌, ◌*◌, ◌≤◌, ◌<◌, length};
-ghost use Rattle.basics.specs.Loan.{given, final};
 ghost use Rattle.config.specs.Configuration.{states};
 ghost use Rattle.config.specs.Inner.{Valid};
 ghost use Rattle.tally.specs.Entries.{tables};
-ghost use Rattle.calibrator.specs.Record.{came, remains};
+ghost use Rattle.calibrator.specs.Record.{memory};
 ghost use Rattle.calibrator.specs.Observe.{broken, wrong_lengths};
 ghost use Rattle.image_layout.specs.Layout.{newest, image_length, image, config_in, record_in, memory_in};
 ghost use Rattle.image.specs.Image.{end_save, saved, save_refusal, end_restore, restored, held_refusal, restore_refusal};
@@ -37,7 +36,7 @@ fn check_save(
     config: MicroPriceConfig,
     long: usize,
 ) -> Check
-    ensures { result ≡ save_refusal config (came rec stay moved move_half_ticks) long }
+    ensures { result ≡ save_refusal config (memory rec stay.now moved.now move_half_ticks.now) long }
 {
     let lengths = calibrator::inner::check_table_lengths(
         config,
@@ -68,7 +67,7 @@ fn write_image(
     out: &mut [u8],
 )
     requires { Valid config × (wrong_lengths (states config) (length stay.now) (length moved.now) (length move_half_ticks.now) ≡ false) × (length out.old ≡ image_length newest config) }
-    ensures { final out ≡ image newest config (came rec stay moved move_half_ticks) }
+    ensures { out.new ≡ image newest config (memory rec stay.now moved.now move_half_ticks.now) }
 {
     let cells = image_layout::cell_count(config);
     let h = image_layout::header_words(config, rec);
@@ -87,7 +86,7 @@ pub fn save(
     config: MicroPriceConfig,
     out: &mut [u8],
 ) -> Check
-    ensures { end_save result (final out) ≡ saved config (came rec stay moved move_half_ticks) (given out) }
+    ensures { end_save result out.new ≡ saved config (memory rec stay.now moved.now move_half_ticks.now) out.old }
 {
     let k = check_save(rec, stay, moved, move_half_ticks, config, out.len());
     let Check::Fine = k else {
@@ -107,7 +106,7 @@ fn check_held(
     move_half_ticks: &[i64],
 ) -> Check
     requires { Valid config × (config ≡ config_in newest b.now) × (rec ≡ record_in newest b.now) × (length b.now ≡ image_length newest config) }
-    ensures { result ≡ held_refusal newest (given b) (tables (given stay) (given moved) (given move_half_ticks)) }
+    ensures { result ≡ held_refusal newest b.now (tables stay.now moved.now move_half_ticks.now) }
 {
     let n = config::inner::state_count(config);
     if calibrator::inner::wrong_lengths(n, stay.len(), moved.len(), move_half_ticks.len()) {
@@ -139,7 +138,7 @@ fn check_held(
 
 // What refuses an image, judged on its bytes before anything is written.
 pub fn check_restore(b: &[u8], stay: &[u64], moved: &[u64], move_half_ticks: &[i64]) -> Check
-    ensures { result ≡ restore_refusal (given b) (tables (given stay) (given moved) (given move_half_ticks)) }
+    ensures { result ≡ restore_refusal b.now (tables stay.now moved.now move_half_ticks.now) }
 {
     if b.len() < image_layout::LEAST {
         return Check::Refused(Refusal::ImageLayout);
@@ -157,7 +156,7 @@ pub fn check_restore(b: &[u8], stay: &[u64], moved: &[u64], move_half_ticks: &[i
 
 fn read_tables(b: &[u8], stay: &mut [u64], moved: &mut [u64], move_half_ticks: &mut [i64])
     requires { Readable newest b.now (length stay.old) (length moved.old) (length move_half_ticks.old) }
-    ensures { tables (final stay) (final moved) (final move_half_ticks) ≡ (memory_in newest (given b)).counts.tables }
+    ensures { tables stay.new moved.new move_half_ticks.new ≡ (memory_in newest b.now).counts.tables }
 {
     let cells = stay.len();
     image_words::get_table(b, image_layout::HEADER, stay);
@@ -173,7 +172,7 @@ pub fn restore(
     moved: &mut [u64],
     move_half_ticks: &mut [i64],
 ) -> RestoreDone
-    ensures { end_restore result.answer (remains result.next stay moved move_half_ticks) ≡ restored (given image) (came rec stay moved move_half_ticks) }
+    ensures { end_restore result.answer (memory result.next stay.new moved.new move_half_ticks.new) ≡ restored image.now (memory rec stay.old moved.old move_half_ticks.old) }
 {
     let k = check_restore(image, stay, moved, move_half_ticks);
     if let Check::Refused(refusal) = k {

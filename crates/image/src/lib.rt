@@ -8,8 +8,7 @@ use refusals::{Check, Refusal};
 pub mod inner;
 
 ghost use Rattle.std.specs.Prelude.{◌≡◌};
-ghost use Rattle.basics.specs.Loan.{given, final};
-ghost use Rattle.calibrator.specs.Record.{came, remains};
+ghost use Rattle.calibrator.specs.Record.{memory};
 ghost use Rattle.image.specs.Image.{end_save, saved, end_restore, restored};
 
 // What restore answers.
@@ -35,7 +34,7 @@ pub fn save(
     config: MicroPriceConfig,
     out: &mut [u8],
 ) -> Check
-    ensures { end_save result (final out) ≡ saved config (came (given rec) stay moved move_half_ticks) (given out) }
+    ensures { end_save result out.new ≡ saved config (memory rec.now stay.now moved.now move_half_ticks.now) out.old }
 {
     inner::save(*rec, stay, moved, move_half_ticks, config, out)
 }
@@ -48,7 +47,7 @@ pub fn restore(
     moved: &mut [u64],
     move_half_ticks: &mut [i64],
 ) -> Restored
-    ensures { end_restore result (remains (final rec) stay moved move_half_ticks) ≡ restored (given image) (came (given rec) stay moved move_half_ticks) }
+    ensures { end_restore result (memory rec.new stay.new moved.new move_half_ticks.new) ≡ restored image.now (memory rec.old stay.old moved.old move_half_ticks.old) }
 {
     let done = inner::restore(*rec, image, stay, moved, move_half_ticks);
     *rec = done.next;

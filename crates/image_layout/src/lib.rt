@@ -2,7 +2,6 @@
 #![tactic(auto)]
 
 ghost use Rattle.std.specs.Prelude.{◌≡◌, [], ◌≤◌, length};
-ghost use Rattle.basics.specs.Loan.{given};
 ghost use Rattle.config.specs.Inner.{Valid};
 ghost use Rattle.tally.specs.Entries.{tables};
 ghost use Rattle.calibrator.specs.Record.{counts_of};
@@ -84,7 +83,7 @@ pub fn image_length(config: MicroPriceConfig) -> usize
 
 pub fn config_in(b: &[u8]) -> MicroPriceConfig
     requires { header_length oldest ≤ length b.now }
-    ensures { result ≡ config_in (form_in (given b)) (given b) }
+    ensures { result ≡ config_in (form_in b.now) b.now }
 {
     let n = image_words::get_word(b, 8);
     let s = image_words::get_word(b, 16);
@@ -97,7 +96,7 @@ pub fn config_in(b: &[u8]) -> MicroPriceConfig
 
 fn quote_in(b: &[u8]) -> TopOfBook
     requires { header_length oldest ≤ length b.now }
-    ensures { result ≡ quote_in (given b) }
+    ensures { result ≡ quote_in b.now }
 {
     let timestamp_ms = image_words::get_word(b, 80);
     let bid = image_words::get_word(b, 88);
@@ -115,7 +114,7 @@ fn quote_in(b: &[u8]) -> TopOfBook
 
 fn previous_in(b: &[u8]) -> Previous
     requires { header_length oldest ≤ length b.now }
-    ensures { result ≡ previous_in (given b) }
+    ensures { result ≡ previous_in b.now }
 {
     let flag = image_words::get_word(b, 72);
     if flag == 1 {
@@ -126,7 +125,7 @@ fn previous_in(b: &[u8]) -> Previous
 
 pub fn record_in(b: &[u8]) -> Record
     requires { header_length oldest ≤ length b.now }
-    ensures { result ≡ record_in (form_in (given b)) (given b) }
+    ensures { result ≡ record_in (form_in b.now) b.now }
 {
     let previous = previous_in(b);
     let pairs = image_words::get_word(b, 120);
@@ -146,7 +145,7 @@ pub fn record_in(b: &[u8]) -> Record
 
 fn same_words(b: &[u8], h: &[u64]) -> bool
     requires { header_length (length h.now) ≤ length b.now }
-    ensures { result ≡ same_words (header_in (length (given h)) (given b)) (given h) }
+    ensures { result ≡ same_words (header_in (length h.now) b.now) h.now }
 {
     let mut i: usize = 0;
     while i < h.len() {
@@ -160,7 +159,7 @@ fn same_words(b: &[u8], h: &[u64]) -> bool
 
 pub fn is_laid_out(b: &[u8], config: MicroPriceConfig, rec: Record) -> bool
     requires { Valid config × (header_length oldest ≤ length b.now) × (config ≡ config_in (form_in b.now) b.now) × (rec ≡ record_in (form_in b.now) b.now) }
-    ensures { result ≡ laid_out (form_in (given b)) (given b) }
+    ensures { result ≡ laid_out (form_in b.now) b.now }
 {
     let h = header_words(config, rec);
     let same = same_words(b, &h);

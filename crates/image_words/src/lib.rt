@@ -3,7 +3,6 @@
 
 ghost use Rattle.std.specs.Prelude.{◌≡◌, ◌+◌, ◌*◌, ◌≤◌, ◌<◌, length, get_or, drop, set, map, pos};
 ghost use Rattle.std.proofs.lemmas.List.Edits.{sets};
-ghost use Rattle.basics.specs.Loan.{given, final};
 ghost use Rattle.image_words.specs.Words.{digits, bytes_of, words_of, word_at, twos, untwos};
 ghost use Rattle.image_words.specs.Inner.{WordOf};
 
@@ -15,7 +14,7 @@ fn wide(b: u8) -> u64
 
 pub fn put_word(out: &mut [u8], at: usize, w: u64)
     requires { at + 8 ≤ length out.old }
-    ensures { final out ≡ sets (given out) at (digits 8 w) }
+    ensures { out.new ≡ sets out.old at (digits 8 w) }
 {
     let mut x = w;
     let mut k: usize = 0;
@@ -28,7 +27,7 @@ pub fn put_word(out: &mut [u8], at: usize, w: u64)
 
 pub fn get_word(bytes: &[u8], at: usize) -> u64
     requires { at + 8 ≤ length bytes.now }
-    ensures { result ≡ word_at (given bytes) at }
+    ensures { result ≡ word_at bytes.now at }
 {
     let mut w: u64 = 0;
     let mut k: usize = 8;
@@ -42,7 +41,7 @@ pub fn get_word(bytes: &[u8], at: usize) -> u64
 // A whole table, from an offset on.
 pub fn put_table(out: &mut [u8], at: usize, t: &[u64])
     requires { at + 8 * length t.now ≤ length out.old }
-    ensures { final out ≡ sets (given out) at (bytes_of (given t)) }
+    ensures { out.new ≡ sets out.old at (bytes_of t.now) }
 {
     let mut i: usize = 0;
     while i < t.len() {
@@ -53,7 +52,7 @@ pub fn put_table(out: &mut [u8], at: usize, t: &[u64])
 
 pub fn get_table(bytes: &[u8], at: usize, t: &mut [u64])
     requires { at + 8 * length t.old ≤ length bytes.now }
-    ensures { final t ≡ words_of (length (given t)) (drop at (given bytes)) }
+    ensures { t.new ≡ words_of (length t.old) (drop at bytes.now) }
 {
     let mut i: usize = 0;
     while i < t.len() {
@@ -65,7 +64,7 @@ pub fn get_table(bytes: &[u8], at: usize, t: &mut [u64])
 // An element of either sign as its word, and a word as the element.
 pub fn word_of(t: &[i64], i: usize) -> u64
     requires { i < length t.now }
-    ensures { WordOf result (get_or (given t) i (pos 0)) }
+    ensures { WordOf result (get_or t.now i (pos 0)) }
 {
     let x = t[i];
     if x < 0 {
@@ -76,7 +75,7 @@ pub fn word_of(t: &[i64], i: usize) -> u64
 
 pub fn set_word(t: &mut [i64], i: usize, w: u64)
     requires { i < length t.old }
-    ensures { final t ≡ set (given t) i (untwos w) }
+    ensures { t.new ≡ set t.old i (untwos w) }
 {
     if w < 9223372036854775808 {
         t[i] = w as i64;
@@ -87,7 +86,7 @@ pub fn set_word(t: &mut [i64], i: usize, w: u64)
 
 pub fn put_totals(out: &mut [u8], at: usize, t: &[i64])
     requires { at + 8 * length t.now ≤ length out.old }
-    ensures { final out ≡ sets (given out) at (bytes_of (map twos (given t))) }
+    ensures { out.new ≡ sets out.old at (bytes_of (map twos t.now)) }
 {
     let mut i: usize = 0;
     while i < t.len() {
@@ -98,7 +97,7 @@ pub fn put_totals(out: &mut [u8], at: usize, t: &[i64])
 
 pub fn get_totals(bytes: &[u8], at: usize, t: &mut [i64])
     requires { at + 8 * length t.old ≤ length bytes.now }
-    ensures { final t ≡ map untwos (words_of (length (given t)) (drop at (given bytes))) }
+    ensures { t.new ≡ map untwos (words_of (length t.old) (drop at bytes.now)) }
 {
     let mut i: usize = 0;
     while i < t.len() {

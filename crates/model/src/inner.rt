@@ -1,7 +1,6 @@
 // Inner functions: for the crates above, not for users. Where one has a `requires`, each caller proves it.
 ghost use Rattle.std.specs.Prelude.{◌≡◌, ◌+◌, ◌*◌, ◌≤◌, length};
 ghost use Rattle.std.proofs.lemmas.List.Edits.{sets};
-ghost use Rattle.basics.specs.Loan.{given, final};
 ghost use Rattle.model.specs.Rows.{float_word, row_words, row_at};
 ghost use Rattle.model.specs.Status.{status_number};
 
@@ -28,7 +27,7 @@ fn float_word(x: f64) -> u64
 // Writes the row of state i.
 pub fn write_row(model: &mut [u64], i: usize, e: StateEstimate)
     requires { 7 * i + 7 ≤ length model.old }
-    ensures { final model ≡ sets (given model) (7 * i) (row_words e) }
+    ensures { model.new ≡ sets model.old (7 * i) (row_words e) }
 {
     let first_adjustment = float_word(e.first_adjustment);
     let adjustment = float_word(e.adjustment);
@@ -46,7 +45,7 @@ pub fn write_row(model: &mut [u64], i: usize, e: StateEstimate)
 // Reads the row of state i.
 pub fn read_row(model: &[u64], i: usize) -> StateEstimate
     requires { 7 * i + 7 ≤ length model.now }
-    ensures { result ≡ row_at (given model) i }
+    ensures { result ≡ row_at model.now i }
 {
     let at = 7 * i;
     let first_adjustment = floats::from_bits(model[at + 3]);

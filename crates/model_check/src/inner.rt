@@ -1,6 +1,5 @@
 // Inner functions of the model check; `half_spread_of` is for the signal. Where one has a `requires`, each caller proves it.
 ghost use Rattle.std.specs.Prelude.{◌≡◌, ◌&&◌, ℕ, ◌*◌, ◌<◌, length};
-ghost use Rattle.basics.specs.Loan.{given};
 ghost use Rattle.refusals.specs.Refusals.{first_from};
 ghost use Rattle.config.specs.Configuration.{states};
 ghost use Rattle.config.specs.Inner.{Valid};
@@ -101,7 +100,7 @@ fn row_fine(
 // Row i, of a state whose spread level is known.
 fn check_row(config: MicroPriceConfig, model: &[u64], level: Level, i: usize) -> Check
     requires { Valid config × (length model.now ≡ 7 * states config) × HasLevel config.imbalance_buckets level i × (i < states config) }
-    ensures { result ≡ check_row config (given model) i }
+    ensures { result ≡ check_row config model.now i }
 {
     let m = quotes::inner::mirror_in(config.imbalance_buckets as usize, level.first, i);
     let e = model::inner::read_row(model, i);
@@ -115,7 +114,7 @@ fn check_row(config: MicroPriceConfig, model: &[u64], level: Level, i: usize) ->
 // All rows, in one walk that knows the spread level of each state.
 pub fn check_rows(config: MicroPriceConfig, model: &[u64], n: usize) -> Check
     requires { Valid config × (length model.now ≡ 7 * states config) × (n ≡ states config) }
-    ensures { result ≡ first_from (check_row config (given model)) 0 n }
+    ensures { result ≡ first_from (check_row config model.now) 0 n }
 {
     let w = config.imbalance_buckets as usize;
     let mut level = Level {

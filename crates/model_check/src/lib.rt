@@ -4,7 +4,6 @@
 pub mod inner;
 
 ghost use Rattle.std.specs.Prelude.{◌≡◌};
-ghost use Rattle.basics.specs.Loan.{given};
 ghost use Rattle.model_check.specs.Check.{check_model};
 
 use config::MicroPriceConfig;
@@ -12,7 +11,7 @@ use refusals::{Check, Refusal};
 
 // Refuses a model table that is not one of the configuration, at its first bad row.
 pub fn check_model(config: MicroPriceConfig, model: &[u64]) -> Check
-    ensures { result ≡ check_model config (given model) }
+    ensures { result ≡ check_model config model.now }
 {
     if !config::inner::is_valid(config) {
         return Check::Refused(Refusal::Configuration);

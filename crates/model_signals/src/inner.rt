@@ -1,6 +1,5 @@
 // Inner functions of the signal, not for users. Where one has a `requires`, each caller proves it.
 ghost use Rattle.std.specs.Prelude.{◌≡◌, ◌*◌, ◌<◌, length};
-ghost use Rattle.basics.specs.Loan.{given};
 ghost use Rattle.config.specs.Configuration.{states};
 ghost use Rattle.config.specs.Inner.{Valid};
 ghost use Rattle.quotes.specs.Inner.{Accepted};
@@ -86,7 +85,7 @@ fn signal_of(
 // The signal of an accepted quote in state i.
 fn signal_of_row(config: MicroPriceConfig, model: &[u64], quote: TopOfBook, i: usize) -> Signalled
     requires { Valid config × (length model.now ≡ 7 * states config) × Accepted config quote × (i < states config) }
-    ensures { result ≡ signal_of_row config (given model) quote i }
+    ensures { result ≡ signal_of_row config model.now quote i }
 {
     let e = model::inner::read_row(model, i);
     if !row_serves(config, i, e) {
@@ -98,7 +97,7 @@ fn signal_of_row(config: MicroPriceConfig, model: &[u64], quote: TopOfBook, i: u
 // The signal of an accepted quote.
 pub fn signal_at(config: MicroPriceConfig, model: &[u64], quote: TopOfBook) -> Signalled
     requires { Valid config × (length model.now ≡ 7 * states config) × Accepted config quote }
-    ensures { result ≡ signal_at config (given model) quote (place_of config quote) }
+    ensures { result ≡ signal_at config model.now quote (place_of config quote) }
 {
     let place = quotes::inner::place_of(config, quote);
     let Place::State(at) = place else {

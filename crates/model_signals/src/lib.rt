@@ -4,7 +4,6 @@
 pub mod inner;
 
 ghost use Rattle.std.specs.Prelude.{◌≡◌};
-ghost use Rattle.basics.specs.Loan.{given};
 ghost use Rattle.model_signals.specs.Signal.{signal_of};
 
 use config::MicroPriceConfig;
@@ -45,7 +44,7 @@ pub enum Signalled {
 
 // The signal of a quote. Of the table only the row of the quote's state is read.
 pub fn signal(config: MicroPriceConfig, model: &[u64], quote: TopOfBook) -> Signalled
-    ensures { result ≡ signal_of config (given model) quote }
+    ensures { result ≡ signal_of config model.now quote }
 {
     if !config::inner::is_valid(config) {
         return Signalled::Refused(Refusal::Configuration);

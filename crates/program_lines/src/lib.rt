@@ -2,7 +2,6 @@
 #![tactic(auto)]
 
 ghost use Rattle.std.specs.Prelude.{◌≡◌, ◌+◌, ◌*◌, ◌≤◌, ◌<◌, length};
-ghost use Rattle.basics.specs.Loan.{given, final};
 ghost use Rattle.model.specs.Rows.{row_word};
 ghost use Rattle.program_lines.specs.Lines.{named, spaced, bits, counter_lines, row_numbers, row_floats, row_line, row_lines, fit_lines, PutIn};
 
@@ -12,7 +11,7 @@ use refusals::Check;
 // A line of a word and a number.
 pub fn put_named(out: &mut [u8], at: usize, word: &[u8], n: u64) -> usize
     requires { at + length word.now + 21 ≤ length out.old }
-    ensures { PutIn (length (given word) + 21) (given out) at (named (given word) n) result (final out) }
+    ensures { PutIn (length word.now + 21) out.old at (named word.now n) result out.new }
 {
     let a = program_text::put_bytes(out, at, word);
     let b = program_text::put_number(out, a, n);
@@ -22,7 +21,7 @@ pub fn put_named(out: &mut [u8], at: usize, word: &[u8], n: u64) -> usize
 // A number and a space.
 fn put_spaced(out: &mut [u8], at: usize, n: u64) -> usize
     requires { at + 21 ≤ length out.old }
-    ensures { PutIn 21 (given out) at (spaced n) result (final out) }
+    ensures { PutIn 21 out.old at (spaced n) result out.new }
 {
     let a = program_text::put_number(out, at, n);
     program_text::put_bytes(out, a, b" ")
@@ -31,7 +30,7 @@ fn put_spaced(out: &mut [u8], at: usize, n: u64) -> usize
 // Sixteen hexadecimal digits and a space.
 fn put_bits(out: &mut [u8], at: usize, w: u64) -> usize
     requires { at + 17 ≤ length out.old }
-    ensures { PutIn 17 (given out) at (bits w) result (final out) }
+    ensures { PutIn 17 out.old at (bits w) result out.new }
 {
     let a = program_text::put_hex(out, at, w);
     program_text::put_bytes(out, a, b" ")
@@ -40,7 +39,7 @@ fn put_bits(out: &mut [u8], at: usize, w: u64) -> usize
 // Word k of row i of a model table.
 fn row_word(model: &[u64], i: usize, k: usize) -> u64
     requires { (i < 27) × (k < 7) }
-    ensures { result ≡ row_word (given model) i k }
+    ensures { result ≡ row_word model.now i k }
 {
     let at = 7 * i + k;
     if at < model.len() {
@@ -52,7 +51,7 @@ fn row_word(model: &[u64], i: usize, k: usize) -> u64
 // The five counters.
 pub fn put_counters(out: &mut [u8], at: usize, k: Counters, invalid: u64) -> usize
     requires { at + 138 ≤ length out.old }
-    ensures { PutIn 138 (given out) at (counter_lines k.pairs k.skipped_spread_pairs k.skipped_gap_pairs k.largest_move_half_ticks invalid) result (final out) }
+    ensures { PutIn 138 out.old at (counter_lines k.pairs k.skipped_spread_pairs k.skipped_gap_pairs k.largest_move_half_ticks invalid) result out.new }
 {
     let a = put_named(out, at, b"pairs ", k.pairs);
     let b = put_named(out, a, b"spread ", k.skipped_spread_pairs);
@@ -64,7 +63,7 @@ pub fn put_counters(out: &mut [u8], at: usize, k: Counters, invalid: u64) -> usi
 // State, bucket, spread and observations.
 fn put_row_numbers(out: &mut [u8], at: usize, model: &[u64], i: usize) -> usize
     requires { (i < 27) × (at + 84 ≤ length out.old) }
-    ensures { PutIn 84 (given out) at (row_numbers (given model) i) result (final out) }
+    ensures { PutIn 84 out.old at (row_numbers model.now i) result out.new }
 {
     let a = put_spaced(out, at, i as u64);
     let b = put_spaced(out, a, row_word(model, i, 0));
@@ -75,7 +74,7 @@ fn put_row_numbers(out: &mut [u8], at: usize, model: &[u64], i: usize) -> usize
 // The bits of three floats.
 fn put_row_floats(out: &mut [u8], at: usize, model: &[u64], i: usize) -> usize
     requires { (i < 27) × (at + 51 ≤ length out.old) }
-    ensures { PutIn 51 (given out) at (row_floats (given model) i) result (final out) }
+    ensures { PutIn 51 out.old at (row_floats model.now i) result out.new }
 {
     let a = put_bits(out, at, row_word(model, i, 3));
     let b = put_bits(out, a, row_word(model, i, 4));
@@ -85,7 +84,7 @@ fn put_row_floats(out: &mut [u8], at: usize, model: &[u64], i: usize) -> usize
 // The line of state i.
 fn put_row(out: &mut [u8], at: usize, model: &[u64], i: usize) -> usize
     requires { (i < 27) × (at + 156 ≤ length out.old) }
-    ensures { PutIn 156 (given out) at (row_line (given model) i) result (final out) }
+    ensures { PutIn 156 out.old at (row_line model.now i) result out.new }
 {
     let a = put_row_numbers(out, at, model, i);
     let b = put_row_floats(out, a, model, i);
@@ -95,7 +94,7 @@ fn put_row(out: &mut [u8], at: usize, model: &[u64], i: usize) -> usize
 // The lines of states 0 to n - 1.
 fn put_rows(out: &mut [u8], at: usize, model: &[u64], n: usize) -> usize
     requires { (n ≤ 27) × (at + 156 * n ≤ length out.old) }
-    ensures { PutIn (156 * n) (given out) at (row_lines (given model) n) result (final out) }
+    ensures { PutIn (156 * n) out.old at (row_lines model.now n) result out.new }
 {
     let mut next = at;
     let mut i: usize = 0;
@@ -109,7 +108,7 @@ fn put_rows(out: &mut [u8], at: usize, model: &[u64], n: usize) -> usize
 // The rows of a fit, or the number of its refusal.
 pub fn put_fit(out: &mut [u8], at: usize, answer: Check, model: &[u64], n: usize) -> usize
     requires { (n ≤ 27) × (at + 4212 ≤ length out.old) }
-    ensures { PutIn 4212 (given out) at (fit_lines answer (given model) n) result (final out) }
+    ensures { PutIn 4212 out.old at (fit_lines answer model.now n) result out.new }
 {
     match answer {
         Check::Fine => put_rows(out, at, model, n),

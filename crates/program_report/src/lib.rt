@@ -2,9 +2,8 @@
 #![tactic(auto)]
 
 ghost use Rattle.std.specs.Prelude.{◌≡◌, ◌*◌, ◌≤◌, length};
-ghost use Rattle.basics.specs.Loan.{given, final};
 ghost use Rattle.config.specs.Configuration.{states};
-ghost use Rattle.calibrator.specs.Record.{remains};
+ghost use Rattle.calibrator.specs.Record.{memory};
 ghost use Rattle.evening.specs.Evening.{end_evening};
 ghost use Rattle.program_text.specs.Reading.{asked};
 ghost use Rattle.program_lines.specs.Lines.{counter_lines, PutIn};
@@ -22,8 +21,8 @@ pub const MOST_BYTES: usize = 4350;
 // The lines of an evening's answer, its counters and its model table.
 fn put_outcome(out: &mut [u8], answer: Evening, k: Counters, model: &[u64], n: usize) -> usize
     requires { (n ≤ 27) × (most_bytes ≤ length out.old) }
-    ensures { PutIn most_bytes (given out) 0 (outcome_lines n answer (counter_lines k.pairs k.skipped_spread_pairs k.skipped_gap_pairs k.largest_move_half_ticks)
-        (given model)) result (final out) }
+    ensures { PutIn most_bytes out.old 0 (outcome_lines n answer (counter_lines k.pairs k.skipped_spread_pairs k.skipped_gap_pairs k.largest_move_half_ticks)
+        model.now) result out.new }
 {
     match answer {
         Evening::Refused(r) => program_lines::put_named(
@@ -69,7 +68,7 @@ fn run_evening(
     model: &mut [u64],
 ) -> EveningDone
     requires { Zeros (states (request_config r)) stay.old moved.old move_half_ticks.old scratch.old model.old }
-    ensures { end_evening result.answer (remains result.next stay moved move_half_ticks) (final model) (final scratch) ≡ evening_of r (given quotes) }
+    ensures { end_evening result.answer (memory result.next stay.new moved.new move_half_ticks.new) model.new scratch.new ≡ evening_of r quotes.now }
 {
     let config = request_config(r);
     let rec = new_record();
@@ -100,7 +99,7 @@ fn put_evening(
     model: &mut [u64],
 ) -> usize
     requires { (n ≡ states (request_config r)) × (n ≤ 27) × (most_bytes ≤ length out.old) × Zeros n stay.old moved.old move_half_ticks.old scratch.old model.old }
-    ensures { PutIn most_bytes (given out) 0 (printed (asked r (given quotes))) result (final out) }
+    ensures { PutIn most_bytes out.old 0 (printed (asked r quotes.now)) result out.new }
 {
     let done = run_evening(r, quotes, stay, moved, move_half_ticks, scratch, model);
     let answer = done.answer;
@@ -127,7 +126,7 @@ fn product(a: usize, b: usize) -> usize
 // The lines of the evening of a request.
 fn put_request(out: &mut [u8], r: Request, quotes: &[u64]) -> usize
     requires { (r.buckets * r.spread_states ≤ 27) × (most_bytes ≤ length out.old) }
-    ensures { PutIn most_bytes (given out) 0 (printed (asked r (given quotes))) result (final out) }
+    ensures { PutIn most_bytes out.old 0 (printed (asked r quotes.now)) result out.new }
 {
     let mut stay = [0u64; 729];
     let mut moved = [0u64; 729];
@@ -153,7 +152,7 @@ fn put_request(out: &mut [u8], r: Request, quotes: &[u64]) -> usize
 // The lines of a text, with room for its quotes.
 fn put_text(input: &[u8], out: &mut [u8], recording: &mut [u64]) -> usize
     requires { (most_bytes ≤ length out.old) × (5000 ≤ length recording.old) }
-    ensures { PutIn most_bytes (given out) 0 (evening_text (given input)) result (final out) }
+    ensures { PutIn most_bytes out.old 0 (evening_text input.now) result out.new }
 {
     let found = program_text::read_text(input, recording);
     match found {
@@ -167,7 +166,7 @@ fn put_text(input: &[u8], out: &mut [u8], recording: &mut [u64]) -> usize
 
 // What the evening program prints for an input, from the front of `out` on, and how many bytes that is. An `out` of fewer than MOST_BYTES bytes stays as it is, and the answer is 0.
 pub fn evening_text(input: &[u8], out: &mut [u8]) -> usize
-    ensures { PutIn (length (given out)) (given out) 0 (text_for (length (given out)) (given input)) result (final out) }
+    ensures { PutIn (length out.old) out.old 0 (text_for (length out.old) input.now) result out.new }
 {
     if out.len() < MOST_BYTES {
         return 0;

@@ -2,7 +2,6 @@
 #![tactic(auto)]
 
 ghost use Rattle.std.specs.Prelude.{◌≡◌, ◌+◌, ◌≤◌, ◌<◌, ◌^◌, length};
-ghost use Rattle.basics.specs.Loan.{given, final};
 ghost use Rattle.program_text.specs.Text.{decimal};
 ghost use Rattle.program_text.specs.Written.{hex_digit, hex_digits, hex16, Put};
 ghost use Rattle.program_text.specs.Reading.{whole_lines, few_states, read_text, ReadBy};
@@ -115,7 +114,7 @@ fn take_byte(s: Scan, b: u8) -> Step
 
 // Stores a number that ended in its place, counted from number `first` on, if there is one.
 fn keep(out: &mut [u64], first: usize, s: Scan, t: Scan)
-    ensures { final out ≡ kept (given out) first s t }
+    ensures { out.new ≡ kept out.old first s t }
 {
     if t.begun {
         return;
@@ -131,7 +130,7 @@ fn keep(out: &mut [u64], first: usize, s: Scan, t: Scan)
 
 // Reads all numbers of a text and stores them from number `first` on, as far as there is room.
 fn read_numbers(text: &[u8], first: usize, out: &mut [u64]) -> Numbers
-    ensures { NumbersBy (given text) first (given out) result (final out) }
+    ensures { NumbersBy text.now first out.old result out.new }
 {
     let mut s = Scan {
         count: 0,
@@ -176,7 +175,7 @@ fn few_states(n: u64, s: u64) -> bool
 
 // The request of a text, and the words of its quotes in the recording, as far as it has room; or bad input, and the recording as it was.
 pub fn read_text(text: &[u8], recording: &mut [u64]) -> Read
-    ensures { ReadBy (read_text (given text)) (given recording) result (final recording) }
+    ensures { ReadBy (read_text text.now) recording.old result recording.new }
 {
     let mut head = [0u64; 7];
     let found = read_numbers(text, 0, &mut head);
@@ -204,7 +203,7 @@ pub fn read_text(text: &[u8], recording: &mut [u64]) -> Read
 
 pub fn put_number(out: &mut [u8], at: usize, n: u64) -> usize
     requires { at + length (decimal n) ≤ length out.old }
-    ensures { Put (given out) at (decimal n) result (final out) }
+    ensures { Put out.old at (decimal n) result out.new }
 {
     if n < 10 {
         out[at] = (48 + n) as u8;
@@ -228,7 +227,7 @@ fn hex_digit(d: u64) -> u8
 // The last k hexadecimal digits.
 fn put_digits(out: &mut [u8], at: usize, w: u64, k: usize) -> usize
     requires { at + k ≤ length out.old }
-    ensures { Put (given out) at (hex_digits k w) result (final out) }
+    ensures { Put out.old at (hex_digits k w) result out.new }
 {
     if k == 0 {
         return at;
@@ -240,14 +239,14 @@ fn put_digits(out: &mut [u8], at: usize, w: u64, k: usize) -> usize
 
 pub fn put_hex(out: &mut [u8], at: usize, w: u64) -> usize
     requires { at + 16 ≤ length out.old }
-    ensures { Put (given out) at (hex16 w) result (final out) }
+    ensures { Put out.old at (hex16 w) result out.new }
 {
     put_digits(out, at, w, 16)
 }
 
 pub fn put_bytes(out: &mut [u8], at: usize, bytes: &[u8]) -> usize
     requires { at + length bytes.now ≤ length out.old }
-    ensures { Put (given out) at (given bytes) result (final out) }
+    ensures { Put out.old at bytes.now result out.new }
 {
     let mut i: usize = 0;
     while i < bytes.len() {

@@ -1,8 +1,7 @@
 // The work by value, for Rattle callers, and the functions that it is made of. `observe_recording` asks nothing; where another has a `requires`, each caller proves it.
 ghost use Rattle.std.specs.Prelude.{◌≡◌, true, ◌+◌, ◌*◌, ◌/◌, ◌≤◌, length};
-ghost use Rattle.basics.specs.Loan.{given};
 ghost use Rattle.basics.specs.Lists.{bit, count};
-ghost use Rattle.calibrator.specs.Record.{came, remains};
+ghost use Rattle.calibrator.specs.Record.{memory};
 ghost use Rattle.recording.specs.Recording.{quote_at, quotes_of, sorted};
 ghost use Rattle.recording.specs.Window.{before, part_ends, PartIn};
 ghost use Rattle.recording.specs.Observe.{is_invalid, is_stop, recorded_as};
@@ -18,7 +17,7 @@ use refusals::{Check, Refusal};
 
 pub fn quote_at(recording: &[u64], i: usize) -> TopOfBook
     requires { 5 * i + 5 ≤ length recording.now }
-    ensures { result ≡ quote_at (given recording) i }
+    ensures { result ≡ quote_at recording.now i }
 {
     let at = 5 * i;
     TopOfBook {
@@ -31,7 +30,7 @@ pub fn quote_at(recording: &[u64], i: usize) -> TopOfBook
 }
 
 pub fn is_sorted(recording: &[u64]) -> bool
-    ensures { result ≡ sorted (quotes_of (given recording)) }
+    ensures { result ≡ sorted (quotes_of recording.now) }
 {
     let n = recording.len() / 5;
     let mut last = 0;
@@ -52,7 +51,7 @@ pub fn is_sorted(recording: &[u64]) -> bool
 // How many quotes of a sorted recording are before a time. The halving needs the order, which `window_of` has judged.
 pub fn quotes_before(recording: &[u64], time: u64) -> usize
     requires { sorted (quotes_of recording.now) ≡ true }
-    ensures { result ≡ count (before time) (quotes_of (given recording)) }
+    ensures { result ≡ count (before time) (quotes_of recording.now) }
 {
     let mut low = 0;
     let mut high = recording.len() / 5;
@@ -123,7 +122,7 @@ pub fn observe_recording(
     config: MicroPriceConfig,
     recording: &[u64],
 ) -> Recorded
-    ensures { recorded_as result.answer result.invalid (remains result.next stay moved move_half_ticks) ≡ recorded_of config (given recording) (came rec stay moved move_half_ticks) }
+    ensures { recorded_as result.answer result.invalid (memory result.next stay.new moved.new move_half_ticks.new) ≡ recorded_of config recording.now (memory rec stay.old moved.old move_half_ticks.old) }
 {
     if recording.len() % 5 != 0 {
         return Recorded {

@@ -8,7 +8,6 @@ use refusals::{Check, Refusal};
 pub mod inner;
 
 ghost use Rattle.std.specs.Prelude.{◌≡◌};
-ghost use Rattle.basics.specs.Loan.{given};
 ghost use Rattle.recording.specs.Window.{window_of, part_ends, PartIn};
 
 // A part of a recording: its first quote, and the one past its last.
@@ -35,7 +34,7 @@ pub struct Recorded {
 
 // The part of a recording with start ≤ time < end.
 pub fn window_of(recording: &[u64], start: u64, end: u64) -> Window
-    ensures { result ≡ window_of (given recording) start end }
+    ensures { result ≡ window_of recording.now start end }
 {
     if recording.len() % 5 != 0 {
         return Window::Refused(Refusal::SliceLength);
@@ -53,7 +52,7 @@ pub fn window_of(recording: &[u64], start: u64, end: u64) -> Window
 
 // That part itself, empty exactly if `window_of` refuses or no quote is inside.
 pub fn quotes_in(recording: &[u64], start: u64, end: u64) -> &[u64]
-    ensures { PartIn (part_ends (window_of (given recording) start end)) recording.entry result }
+    ensures { PartIn (part_ends (window_of recording.now start end)) recording.entry result }
 {
     let ends = inner::part_ends(window_of(recording, start, end));
     inner::part_of(recording, ends)

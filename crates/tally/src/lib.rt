@@ -5,7 +5,6 @@ pub mod totals;
 
 ghost use Rattle.std.specs.Prelude.{◌≡◌, ◌≢◌, not, false, ◌+◌, ◌*◌, ◌≤◌, ◌<◌, length, neg_ℤ};
 ghost use Rattle.basics.specs.Lists.{cell_index};
-ghost use Rattle.basics.specs.Loan.{given, final};
 ghost use Rattle.basics.specs.Domain.{most_half_ticks};
 ghost use Rattle.tally.specs.Totals.{change, add_at};
 ghost use Rattle.tally.specs.Entries.{bump, tables, enter_both, touched_over};
@@ -52,7 +51,7 @@ fn once_more(a: usize, b: usize) -> u64
 
 fn cells_within(t: &[u64], a: usize, b: usize) -> bool
     requires { (a < length t.now) × (b < length t.now) }
-    ensures { result ≡ not (cells_over (given t) a b) }
+    ensures { result ≡ not (cells_over t.now a b) }
 {
     let x = t[a];
     let y = t[b];
@@ -62,7 +61,7 @@ fn cells_within(t: &[u64], a: usize, b: usize) -> bool
 
 fn add_cells(t: &mut [u64], a: usize, b: usize)
     requires { (a < length t.old) × (b < length t.old) × (cells_over t.old a b ≡ false) }
-    ensures { final t ≡ bump (bump (given t) a) b }
+    ensures { t.new ≡ bump (bump t.old a) b }
 {
     t[a] += 1;
     t[b] += 1;
@@ -70,7 +69,7 @@ fn add_cells(t: &mut [u64], a: usize, b: usize)
 
 fn totals_within(t: &[i64], a: usize, b: usize, from: u64, to: u64) -> bool
     requires { (a < length t.now) × (b < length t.now) × (from ≤ most_half_ticks) × (to ≤ most_half_ticks) }
-    ensures { result ≡ not (totals_over (given t) a b (change from to)) }
+    ensures { result ≡ not (totals_over t.now a b (change from to)) }
 {
     if a == b {
         return totals::is_within_at(t, a);
@@ -82,7 +81,7 @@ fn totals_within(t: &[i64], a: usize, b: usize, from: u64, to: u64) -> bool
 
 fn add_totals(t: &mut [i64], a: usize, b: usize, from: u64, to: u64)
     requires { (a < length t.old) × (b < length t.old) × (from ≤ most_half_ticks) × (to ≤ most_half_ticks) × (totals_over t.old a b (change from to) ≡ false) }
-    ensures { final t ≡ add_at (add_at (given t) a (change from to)) b (neg_ℤ (change from to)) }
+    ensures { t.new ≡ add_at (add_at t.old a (change from to)) b (neg_ℤ (change from to)) }
 {
     totals::add_at(t, a, from, to);
     totals::add_at(t, b, to, from);
@@ -97,7 +96,7 @@ pub fn pair_within(
     e: PairEntry,
 ) -> bool
     requires { Placed n e (length stay.now) (length moved.now) (length move_half_ticks.now) }
-    ensures { result ≡ not (touched_over n (forth_of e) (back_of e) (enter_both n (forth_of e) (back_of e) (tables (given stay) (given moved) (given move_half_ticks)))) }
+    ensures { result ≡ not (touched_over n (forth_of e) (back_of e) (enter_both n (forth_of e) (back_of e) (tables stay.now moved.now move_half_ticks.now))) }
 {
     let a = cell(n, e.from, e.to);
     let b = cell(n, e.mirror_from, e.mirror_to);
@@ -118,7 +117,7 @@ pub fn enter_pair(
 )
     requires { Placed n e (length stay.old) (length moved.old) (length move_half_ticks.old)
         × (touched_over n (forth_of e) (back_of e) (enter_both n (forth_of e) (back_of e) (tables stay.old moved.old move_half_ticks.old)) ≡ false) }
-    ensures { tables (final stay) (final moved) (final move_half_ticks) ≡ enter_both n (forth_of e) (back_of e) (tables (given stay) (given moved) (given move_half_ticks)) }
+    ensures { tables stay.new moved.new move_half_ticks.new ≡ enter_both n (forth_of e) (back_of e) (tables stay.old moved.old move_half_ticks.old) }
 {
     let a = cell(n, e.from, e.to);
     let b = cell(n, e.mirror_from, e.mirror_to);

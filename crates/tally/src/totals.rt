@@ -1,6 +1,5 @@
 // Signed totals and the changes that are added to them. Inner functions: for the crates above, not for users. Where one has a `requires`, each caller proves it.
 ghost use Rattle.std.specs.Prelude.{◌≡◌, ◌≤◌, ◌<◌, ◌^◌, pos, nat_abs, ◌+ℤ◌, length, get_or};
-ghost use Rattle.basics.specs.Loan.{given, final};
 ghost use Rattle.basics.specs.Domain.{most_half_ticks};
 ghost use Rattle.tally.specs.Totals.{change, within, add_at};
 
@@ -31,7 +30,7 @@ fn is_within(total: i64) -> bool
 
 pub fn is_within_at(move_half_ticks: &[i64], i: usize) -> bool
     requires { i < length move_half_ticks.now }
-    ensures { result ≡ within (get_or (given move_half_ticks) i (pos 0)) }
+    ensures { result ≡ within (get_or move_half_ticks.now i (pos 0)) }
 {
     is_within(move_half_ticks[i])
 }
@@ -39,7 +38,7 @@ pub fn is_within_at(move_half_ticks: &[i64], i: usize) -> bool
 // Whether a total, whatever it is, would be within the limit with the change added. One far outside stays outside, and is not added to.
 pub fn is_within_after(move_half_ticks: &[i64], i: usize, from: u64, to: u64) -> bool
     requires { (i < length move_half_ticks.now) × (from ≤ most_half_ticks) × (to ≤ most_half_ticks) }
-    ensures { result ≡ within (get_or (given move_half_ticks) i (pos 0) +ℤ change from to) }
+    ensures { result ≡ within (get_or move_half_ticks.now i (pos 0) +ℤ change from to) }
 {
     let total = move_half_ticks[i];
     if (total < FAR_BELOW) | (FAR_ABOVE < total) {
@@ -50,7 +49,7 @@ pub fn is_within_after(move_half_ticks: &[i64], i: usize, from: u64, to: u64) ->
 
 pub fn add_at(move_half_ticks: &mut [i64], i: usize, from: u64, to: u64)
     requires { (i < length move_half_ticks.old) × (from ≤ most_half_ticks) × (to ≤ most_half_ticks) × (nat_abs (get_or move_half_ticks.old i (pos 0)) < 2 ^ 60) }
-    ensures { final move_half_ticks ≡ add_at (given move_half_ticks) i (change from to) }
+    ensures { move_half_ticks.new ≡ add_at move_half_ticks.old i (change from to) }
 {
     move_half_ticks[i] += to as i64 - from as i64;
 }
