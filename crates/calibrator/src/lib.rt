@@ -12,13 +12,13 @@ ghost use Rattle.calibrator.specs.Record.{memory, leaves};
 ghost use Rattle.calibrator.specs.Observe.{made, observed};
 
 // The last quote, if any.
-#[derive(Drop)]
+#[derive(Clone, Copy)]
 pub enum Previous {
     Nothing,
     Quoted(TopOfBook),
 }
 
-#[derive(Drop)]
+#[derive(Clone, Copy)]
 pub struct Counters {
     // Pairs counted, mirrors not included.
     pub pairs: u64,
@@ -31,14 +31,14 @@ pub struct Counters {
 }
 
 // What a calibrator keeps beside its tables.
-#[derive(Drop)]
+#[derive(Clone, Copy)]
 pub struct Record {
     pub previous: Previous,
     pub counters: Counters,
 }
 
 // An answer with the record as it is left.
-#[derive(Drop)]
+#[derive(Clone, Copy)]
 pub struct Done {
     pub answer: Check,
     pub next: Record,

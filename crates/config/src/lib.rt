@@ -9,7 +9,7 @@ ghost use Rattle.std.specs.Prelude.{◌≡◌};
 ghost use Rattle.config.specs.Configuration.{new_config, with_min_state_observations, with_max_quote_gap_ms, check_config};
 
 // Discretization and data rules of the estimator. Any words may stand in it; `validate` judges them.
-#[derive(Drop)]
+#[derive(Clone, Copy)]
 pub struct MicroPriceConfig {
     // Price grid, in units.
     pub tick_size: u64,

@@ -12,14 +12,14 @@ ghost use Rattle.calibrator.specs.Record.{memory};
 ghost use Rattle.evening.specs.Evening.{end_evening, calibrated};
 
 // A fit's answer, nothing refused or 16 to 19, and the number of invalid quotes.
-#[derive(Drop)]
+#[derive(Clone, Copy)]
 pub struct Counted {
     pub answer: Check,
     pub invalid: u64,
 }
 
 // What an evening answers.
-#[derive(Drop)]
+#[derive(Clone, Copy)]
 pub enum Evening {
     Fitted(Counted),
     // Refused before the fit.
@@ -27,7 +27,7 @@ pub enum Evening {
 }
 
 // An answer with the record as it is left.
-#[derive(Drop)]
+#[derive(Clone, Copy)]
 pub struct EveningDone {
     pub answer: Evening,
     pub next: Record,

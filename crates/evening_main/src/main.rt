@@ -8,7 +8,7 @@ ghost use Rattle.evening_main.specs.Inner.{InputWithin};
 use libc::{STDERR_FILENO, STDIN_FILENO, STDOUT_FILENO};
 
 // What reading comes to: so many bytes, or a failure.
-#[derive(Drop)]
+#[derive(Clone, Copy)]
 pub enum Input {
     Bytes(usize),
     Failed,

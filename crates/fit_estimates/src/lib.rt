@@ -13,7 +13,7 @@ ghost use Rattle.fit_estimates.specs.Estimates.{adjusted, judged, estimate_of, s
 use model::StateEstimate;
 
 // What the solution has for a state and for its mirror.
-#[derive(Drop)]
+#[derive(Clone, Copy)]
 pub struct Solved {
     pub first_own: f64,
     pub first_mirrored: f64,

@@ -4,7 +4,7 @@
 pub mod inner;
 
 // What `gauss_jordan` finds.
-#[derive(Drop)]
+#[derive(Clone, Copy)]
 pub enum Solve {
     Solved,
     // A pivot's size is below 1e-12.

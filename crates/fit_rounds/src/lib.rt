@@ -5,7 +5,7 @@ ghost use Rattle.std.specs.Prelude.{◌≡◌};
 ghost use Rattle.fit_rounds.specs.Rounds.{wrong_rounds};
 
 // How many rounds a fit makes. Any words may stand in it; the fit judges them.
-#[derive(Drop)]
+#[derive(Clone, Copy)]
 pub struct Rounds {
     // Most rounds of the series.
     pub series: u64,

@@ -26,7 +26,7 @@ fn dot_product(s: &[f64], i: usize, j: usize, n: usize) -> f64
 }
 
 // Four dot products.
-#[derive(Drop)]
+#[derive(Clone, Copy)]
 pub struct Four {
     pub a: f64,
     pub b: f64,

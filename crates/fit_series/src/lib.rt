@@ -4,7 +4,7 @@
 pub mod inner;
 
 // What `sum_series` finds.
-#[derive(Drop)]
+#[derive(Clone, Copy)]
 pub enum Sum {
     Converged,
     NotConverged,

@@ -14,7 +14,7 @@ use quotes::TopOfBook;
 use refusals::Check;
 
 // A call's answer as a number, and the record as it is left.
-#[derive(Drop)]
+#[derive(Clone, Copy)]
 pub struct CallDone {
     pub answer: u64,
     pub next: Record,

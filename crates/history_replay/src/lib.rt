@@ -9,14 +9,14 @@ pub mod inner;
 ghost use Rattle.history_replay.specs.Replay.{site, Promised, replay as replays};
 
 // What a replay answers. A bad encoding changes nothing.
-#[derive(Drop)]
+#[derive(Clone, Copy)]
 pub enum Replayed {
     Done,
     BadEncoding,
 }
 
 // A replay's answer with the record as it is left.
-#[derive(Drop)]
+#[derive(Clone, Copy)]
 pub struct ReplayDone {
     pub answer: Replayed,
     pub next: Record,

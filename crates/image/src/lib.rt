@@ -12,14 +12,14 @@ ghost use Rattle.calibrator.specs.Record.{memory};
 ghost use Rattle.image.specs.Image.{end_save, saved, end_restore, restored};
 
 // What restore answers.
-#[derive(Drop)]
+#[derive(Clone, Copy)]
 pub enum Restored {
     Config(MicroPriceConfig),
     Refused(Refusal),
 }
 
 // An answer with the record as it is left.
-#[derive(Drop)]
+#[derive(Clone, Copy)]
 pub struct RestoreDone {
     pub answer: Restored,
     pub next: Record,

@@ -4,7 +4,7 @@
 pub mod inner;
 
 // Whether a state's adjustment is used: `status_number` of specs/Status.antt.
-#[derive(Drop)]
+#[derive(Clone, Copy)]
 pub enum StateStatus {
     // The adjustment is estimated and used.
     Calibrated,
@@ -17,7 +17,7 @@ pub enum StateStatus {
 }
 
 // A state of the model table. Any words and floats may stand in it; the model check judges them.
-#[derive(Drop)]
+#[derive(Clone, Copy)]
 pub struct StateEstimate {
     // Imbalance bucket, from 1.
     pub imbalance_bucket: u64,

@@ -12,7 +12,7 @@ use quotes::TopOfBook;
 use refusals::{Check, Refusal};
 
 // Why a signal is what it is: `source_number` of specs/Signal.antt.
-#[derive(Drop)]
+#[derive(Clone, Copy)]
 pub enum SignalSource {
     // The mid plus the calibrated adjustment.
     MicroPrice,
@@ -23,7 +23,7 @@ pub enum SignalSource {
 }
 
 // A fair value at the time of a quote. The sum of mid and adjustment, the Rust's `price`, is not formed.
-#[derive(Drop)]
+#[derive(Clone, Copy)]
 pub struct MicroPriceSignal {
     // Time of the quote it was computed from.
     pub timestamp_ms: u64,
@@ -36,7 +36,7 @@ pub struct MicroPriceSignal {
 }
 
 // The answer of `signal`.
-#[derive(Drop)]
+#[derive(Clone, Copy)]
 pub enum Signalled {
     Sent(MicroPriceSignal),
     Refused(Refusal),

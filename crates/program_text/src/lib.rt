@@ -8,7 +8,7 @@ ghost use Rattle.program_text.specs.Reading.{whole_lines, few_states, read_text,
 ghost use Rattle.program_text.specs.Inner.{separator, takes, digit_step, end_step, step_of, kept, NumbersBy};
 
 // Line 1, and the number of quotes.
-#[derive(Drop)]
+#[derive(Clone, Copy)]
 pub struct Request {
     pub tick: u64,
     pub buckets: u64,
@@ -20,28 +20,28 @@ pub struct Request {
     pub quotes: usize,
 }
 
-#[derive(Drop)]
+#[derive(Clone, Copy)]
 pub enum Read {
     Request(Request),
     Bad,
 }
 
 // How far a text is read: the numbers that ended, the value of the digits after them, and whether there are any.
-#[derive(Drop)]
+#[derive(Clone, Copy)]
 pub struct Scan {
     pub count: usize,
     pub value: u64,
     pub begun: bool,
 }
 
-#[derive(Drop)]
+#[derive(Clone, Copy)]
 pub enum Step {
     On(Scan),
     Off,
 }
 
 // How many numbers a text has, if each byte may stand where it does.
-#[derive(Drop)]
+#[derive(Clone, Copy)]
 pub enum Numbers {
     All(usize),
     Broken,

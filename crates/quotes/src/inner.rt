@@ -13,7 +13,7 @@ use config::MicroPriceConfig;
 use refusals::{Check, Refusal};
 
 // The states of one spread: the spread in ticks and the first of them.
-#[derive(Drop)]
+#[derive(Clone, Copy)]
 pub struct Level {
     pub spread: u64,
     pub first: usize,

@@ -10,7 +10,7 @@ ghost use Rattle.std.specs.Prelude.{◌≡◌};
 ghost use Rattle.quotes.specs.States.{state_of, mirror_state_of};
 
 // Best bid and ask with their sizes, in whole units.
-#[derive(Drop)]
+#[derive(Clone, Copy)]
 pub struct TopOfBook {
     pub timestamp_ms: u64,
     pub bid: u64,
@@ -20,14 +20,14 @@ pub struct TopOfBook {
 }
 
 // A state, by its number, and its mirror's number.
-#[derive(Drop)]
+#[derive(Clone, Copy)]
 pub struct At {
     pub state: usize,
     pub mirror: usize,
 }
 
 // Why a quote has no state.
-#[derive(Drop)]
+#[derive(Clone, Copy)]
 pub enum Reason {
     SpreadOutOfRange,
     // The configuration or the quote is refused.
@@ -35,14 +35,14 @@ pub enum Reason {
 }
 
 // Where a quote stands.
-#[derive(Drop)]
+#[derive(Clone, Copy)]
 pub enum Place {
     State(At),
     NoState(Reason),
 }
 
 // The mirror of a number of a state.
-#[derive(Drop)]
+#[derive(Clone, Copy)]
 pub enum MirrorState {
     State(usize),
     // The configuration has no such state.
@@ -50,14 +50,14 @@ pub enum MirrorState {
 }
 
 // Why two neighbouring quotes are not counted.
-#[derive(Drop)]
+#[derive(Clone, Copy)]
 pub enum Skip {
     Gap,
     Spread,
 }
 
 // A counted pair: from state to state, with the mid before and after in half ticks.
-#[derive(Drop)]
+#[derive(Clone, Copy)]
 pub struct Pair {
     pub from: At,
     pub to: At,
@@ -66,7 +66,7 @@ pub struct Pair {
 }
 
 // What two neighbouring quotes are.
-#[derive(Drop)]
+#[derive(Clone, Copy)]
 pub enum Neighbours {
     Skipped(Skip),
     Counted(Pair),

@@ -11,21 +11,21 @@ ghost use Rattle.std.specs.Prelude.{◌≡◌};
 ghost use Rattle.recording.specs.Window.{window_of, part_ends, PartIn};
 
 // A part of a recording: its first quote, and the one past its last.
-#[derive(Drop)]
+#[derive(Clone, Copy)]
 pub struct Ends {
     pub first: usize,
     pub past: usize,
 }
 
 // What a window finds.
-#[derive(Drop)]
+#[derive(Clone, Copy)]
 pub enum Window {
     Part(Ends),
     Refused(Refusal),
 }
 
 // What counting a recording comes to: the answer, the number of invalid quotes, and the record as it is left.
-#[derive(Drop)]
+#[derive(Clone, Copy)]
 pub struct Recorded {
     pub answer: Check,
     pub invalid: u64,

@@ -5,7 +5,7 @@ ghost use Rattle.std.specs.Prelude.{◌≡◌};
 ghost use Rattle.refusals.specs.Refusals.{number_of, check_number, row_or};
 
 // Document 01's refusals; the number of each is `number_of` of specs/Refusals.antt.
-#[derive(Drop)]
+#[derive(Clone, Copy)]
 pub enum Refusal {
     Configuration,
     OverDomain,
@@ -30,7 +30,7 @@ pub enum Refusal {
 }
 
 // What a check finds.
-#[derive(Drop)]
+#[derive(Clone, Copy)]
 pub enum Check {
     Fine,
     Refused(Refusal),

@@ -14,7 +14,7 @@ ghost use Rattle.tally.specs.Limits.{over_counter};
 use basics::{CELL_LIMIT, COUNTER_LIMIT};
 
 // A counted pair and its mirror by their states, with the mid before and after in half ticks.
-#[derive(Drop)]
+#[derive(Clone, Copy)]
 pub struct PairEntry {
     pub from: usize,
     pub to: usize,

@@ -1,0 +1,43 @@
+-- `quotes::inner::place_of` meets its contract: no state where the spread is over the spread states; else the state is the spread's first one plus the bucket,
+-- and its mirror the same first one plus n less 1 less the bucket, which is what the definition's quotient and remainder give (`mirror-row`). The bucket is
+-- below n (`bucket-le`) and the spread is 1 or more (`spread-least`), so nothing passes below 0; both factors are at most 256 (`fits-mul`). No loop.
+use Prim.Native.Nat.{◌-◌, ◌*◌, ◌≤◌, ◌<◌}
+use native.Mathlib.Omega.{arith}
+use native.Mathlib.Nat.{mul-le-mul}
+use borrow.Author.Tests.{lt-ltb, le-ltb}
+use Rattle.basics.proofs.Tests.{fits-mul}
+use Rattle.quotes.proofs.Buckets.{bucket-le}
+use Rattle.quotes.proofs.Ticks.{spread-least}
+use Rattle.quotes.proofs.States.{mirror-row}
+use borrow.Author.Rules.{rules}
+use Rattle.quotes.proofs.inner.place_of.Goals as goal
+
+-- the bucket is one of the n
+-- BY HAND
+below : (c : tie.After-bucket-of) → c.bucket_of-bucket.result < c.args.config.imbalance_buckets
+below c =
+    let a = c.args in
+    omega (arith, c.bucket_of-bucket.ensures, bucket-le a.q.bid_size a.q.ask_size a.config.imbalance_buckets)
+
+-- the first state of the spread is a product of small numbers
+-- BY HAND
+small : (c : tie.After-bucket-of) →
+    (c.spread_of-spread.result - 1) * c.args.config.imbalance_buckets ≤ 256 * 256
+small c =
+    mul-le-mul {n₁ = c.spread_of-spread.result - 1} {m₁ = c.args.config.imbalance_buckets} {n₂ = 256} {m₂ = 256} (omega arith)
+    (omega arith)
+
+pub returns : goal.returns
+returns c =
+    rw (
+      ← c.spread_of-spread.ensures,
+      ← c.bucket_of-bucket.ensures,
+      le-ltb _ _ c.if-config-spread.false,
+      mirror-row c.args.config.imbalance_buckets (c.spread_of-spread.result - 1) c.bucket_of-bucket.result (below c),
+    )
+
+pub overflow_add-result : goal.overflow_add-result
+overflow_add-result c = omega (arith, below c, small c)
+
+pub overflow_sub-result-2 : goal.overflow_sub-result-2
+overflow_sub-result-2 c = omega (arith, below c)
