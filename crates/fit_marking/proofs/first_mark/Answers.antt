@@ -2,8 +2,7 @@
 -- positive moved cell gives 0 (`first-path`); else 2 (`first-none`). `has_positive` asks that row x lies in `moved` (`row-in-tables`). No loop.
 use mathlib.Core.Path.{sym, ◌∙◌}
 use native.Mathlib.Omega.{arith}
-use borrow.Author.Rules.{rules}
-use Rattle.fit_marking.proofs.Rows.{row-in-tables, first-rare, first-path, first-none}
+use Rattle.fit_marking.proofs.Rows.{first-rare, first-path, first-none}
 use Rattle.fit_marking.proofs.first_mark.Goals as goal
 
 pub returns-then-observations_of-least : goal.returns-then-observations_of-least

@@ -2,8 +2,7 @@
 -- Invariant: the first x marks are stored, and the places from x on are as they were (`Stored`, by `stored-none` and `stored_more`). The measure is n less x.
 -- At the way out x is n, so the marks of all states are stored.
 use Prim.Native.Nat.{◌≤◌, ◌-◌}
-use native.Mathlib.Omega.{arith}
-use Rattle.basics.proofs.Stores.{Stored, stored-none, stored_more}
+use Rattle.basics.proofs.Stores.{Stored}
 use Rattle.fit_marking.specs.Inner.{first_mark}
 use Rattle.fit_marking.proofs.first_marks.Given as goal
 

@@ -1,11 +1,8 @@
 -- `fit_marking::has_positive` meets its contract: a loop over row x that stops at its first positive cell. Invariant: none of the first j cells is positive
 -- (`Searching`). The measure is n less j. The ways out: a positive cell (`searching-found`), and the end of the row (`searching-all`).
 use borrow.Author.Tests.{lt-ltb, le-ltb}
-use Prim.Native.Nat.{◌-◌}
-use lib.Dec.{ltb}
 use native.Mathlib.Omega.{arith}
-use Rattle.basics.specs.Lists.{cell_at}
-use Rattle.fit_marking.proofs.Below.{Searching, searching-none, searching-more, searching-found, searching-all}
+use Rattle.fit_marking.proofs.Below.{searching-none, searching-more, searching-found}
 use Rattle.fit_marking.proofs.has_positive.Goals as goal
 
 pub returns-then-table-start-gt0 : goal.returns-then-table-start-gt0

@@ -1,9 +1,7 @@
-use borrow.Author.Tests.{lt-ltb, le-ltb}
 use Prim.Native.Nat.{◌-◌}
 use lib.Dec.{ltb}
-use native.Mathlib.Omega.{arith}
 use Rattle.basics.specs.Lists.{cell_at}
-use Rattle.fit_marking.proofs.Below.{Searching, searching-none, searching-more, searching-found, searching-all}
+use Rattle.fit_marking.proofs.Below.{Searching}
 use Rattle.fit_marking.proofs.has_positive.Given as goal
 
 abbrev pub invariant-loop-j : goal.invariant-loop-j

@@ -1,9 +1,7 @@
 -- `fit_marking::leads_out` meets its contract: a loop over row x that stops at the first positive stay cell to a state with mark 0. Invariant: none of the
 -- first j states is led to (`Searching`). The measure is n less j. The ways out: such a state (`searching-found`), and the end of the row (`searching-all`).
-use Prim.Native.Nat.{◌-◌}
 use native.Mathlib.Omega.{arith}
-use Rattle.fit_marking.specs.Inner.{leads_to}
-use Rattle.fit_marking.proofs.Below.{Searching, searching-none, searching-more, searching-found, searching-all}
+use Rattle.fit_marking.proofs.Below.{searching-none, searching-more, searching-found}
 use Rattle.fit_marking.proofs.leads_out.Goals as goal
 
 pub returns-then-stay-start : goal.returns-then-stay-start

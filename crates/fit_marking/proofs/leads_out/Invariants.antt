@@ -1,7 +1,6 @@
 use Prim.Native.Nat.{◌-◌}
-use native.Mathlib.Omega.{arith}
 use Rattle.fit_marking.specs.Inner.{leads_to}
-use Rattle.fit_marking.proofs.Below.{Searching, searching-none, searching-more, searching-found, searching-all}
+use Rattle.fit_marking.proofs.Below.{Searching}
 use Rattle.fit_marking.proofs.leads_out.Given as goal
 
 abbrev pub invariant-loop-j : goal.invariant-loop-j

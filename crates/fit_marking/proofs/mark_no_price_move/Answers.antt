@@ -1,10 +1,9 @@
 -- `fit_marking::mark_no_price_move` meets its contract: first marks by the states' own rows, then turns until one frees no state. Invariant: the marks come
 -- from the first marks by freeing states one after another (`Led`). The measure is the number of states with mark 2: a turn that frees a state brings it down.
 -- The way out: the last turn freed none, so no state with mark 2 leads out, and the marks say what is so of every path (`all-marked`).
-use mathlib.Core.Path.{◌≡◌, refl}
-use lib.ListN.{length}
+use mathlib.Core.Path.{refl}
 use native.Mathlib.Omega.{arith}
-use Rattle.fit_marking.specs.Inner.{waiting, Led, none}
+use Rattle.fit_marking.specs.Inner.{none}
 use Rattle.fit_marking.proofs.Turns.{led-led}
 use Rattle.fit_marking.proofs.Marks.{all-marked}
 use Rattle.fit_marking.proofs.mark_no_price_move.Goals as goal

@@ -1,9 +1,6 @@
-use mathlib.Core.Path.{◌≡◌, refl}
+use mathlib.Core.Path.{◌≡◌}
 use lib.ListN.{length}
-use native.Mathlib.Omega.{arith}
-use Rattle.fit_marking.specs.Inner.{waiting, Led, none}
-use Rattle.fit_marking.proofs.Turns.{led-led}
-use Rattle.fit_marking.proofs.Marks.{all-marked}
+use Rattle.fit_marking.specs.Inner.{waiting, Led}
 use Rattle.fit_marking.proofs.mark_no_price_move.Given as goal
 
 abbrev pub invariant-loop : goal.invariant-loop

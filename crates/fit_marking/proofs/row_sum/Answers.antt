@@ -1,10 +1,9 @@
 -- `fit_marking::row_sum` meets its contract: a loop that adds the cells of row x. Invariant: the sum is that of the first j cells. The measure is n less j. No
 -- addition passes the limit of the type: the sum of the first cells is at most that of the whole row (`sum-part`), which the contract requires to be at most
 -- 2^53.
-use mathlib.Core.Path.{◌≡◌, refl, sym}
-use Prim.Native.Nat.{◌≤◌, ◌-◌, ◌+◌, ◌*◌}
+use mathlib.Core.Path.{refl, sym}
+use Prim.Native.Nat.{◌≤◌, ◌+◌}
 use native.Mathlib.Omega.{arith}
-use Rattle.fit_marking.specs.Below.{sum_to}
 use Rattle.basics.specs.Lists.{cell_at}
 use Rattle.fit_marking.proofs.Below.{sum-none, sum_more, sum-part}
 use Rattle.fit_marking.proofs.row_sum.Goals as goal

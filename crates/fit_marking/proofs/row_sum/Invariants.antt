@@ -1,9 +1,7 @@
-use mathlib.Core.Path.{◌≡◌, refl, sym}
-use Prim.Native.Nat.{◌≤◌, ◌-◌, ◌+◌, ◌*◌}
-use native.Mathlib.Omega.{arith}
+use mathlib.Core.Path.{◌≡◌}
+use Prim.Native.Nat.{◌≤◌, ◌-◌, ◌*◌}
 use Rattle.fit_marking.specs.Below.{sum_to}
 use Rattle.basics.specs.Lists.{cell_at}
-use Rattle.fit_marking.proofs.Below.{sum-none, sum_more, sum-part}
 use Rattle.fit_marking.proofs.row_sum.Given as goal
 
 abbrev pub invariant-loop-j : goal.invariant-loop-j

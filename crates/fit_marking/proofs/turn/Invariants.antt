@@ -1,7 +1,5 @@
-use mathlib.Core.Logic.{⊎_elim}
 use Prim.Native.Nat.{◌≤◌, ◌-◌}
-use native.Mathlib.Omega.{arith}
-use Rattle.fit_marking.proofs.Turns.{Pass, pass-start, pass-freed, pass-left, pass-end}
+use Rattle.fit_marking.proofs.Turns.{Pass}
 use Rattle.fit_marking.proofs.turn.Given as goal
 
 abbrev pub invariant-loop-x : goal.invariant-loop-x
