@@ -2,7 +2,7 @@
 -- the first x rows are those of the system and every other place is as it was (`rows_none`, `rows_more`); scratch keeps its length. The measure is n less x. At
 -- the way out x is n.
 use native.Mathlib.Omega.{arith}
-use mathlib.Core.Path.{refl}
+use mathlib.Core.Path.{◌≡◌, refl}
 use Rattle.fit_system.proofs.Filling.{rows_none, rows_more}
 use Rattle.fit_system.proofs.fill_system.Goals as goal
 

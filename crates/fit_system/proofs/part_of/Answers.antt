@@ -5,7 +5,7 @@ use Rattle.fit_system.proofs.part_of.Goals as goal
 
 pub returns-then-is_used : goal.returns-then-is_used
 unfolding part
-returns-then-is_used c = rw (c.if-is_used.true, c.from_u64.ensures, c.from_u64-2.ensures)
+returns-then-is_used c = rw (c.if-is_used.true, c.from_u64.ensures, c.from_u64-then-is_used.ensures)
 
 pub returns : goal.returns
 unfolding part
