@@ -40,7 +40,7 @@ mag-le (negsuc n) = omega arith
 
 -- a number that a word holds is read back from its bits
 pub back : (z : ℤ) → mag z < 2 ^ 63 → to_z w64 (of_z w64 z) ≡ z
-back z h = to_z-of_z (record { sfits = h })
+back z h = to_z-of_z {w = w64} {z = z} (record { sfits = h })
 
 small : (n : ℕ) → n < 2 ^ 63 → to_z w64 n ≡ pos n
 small n h = rw (lt-ltb n (2 ^ 63) h)

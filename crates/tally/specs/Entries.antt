@@ -2,7 +2,7 @@
 use Rattle.std.specs.Prelude.{ℕ, zero, suc, ◌+◌, Bool, true, false, not, cond, ◌||◌, List, ltb, ℤ, pos, negsuc, neg_ℤ, get_or, set}
 use Rattle.basics.specs.Lists.{cell_index}
 use Rattle.basics.specs.Domain.{cell_limit}
-use Rattle.tally.specs.Totals.{change, within, add_at}
+use Rattle.tally.specs.Totals.{within, add_at}
 
 -- from a state to a state with a change of the mid
 pub record Entry : Type 0 where
