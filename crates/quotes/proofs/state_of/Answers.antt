@@ -11,6 +11,6 @@ use Rattle.quotes.proofs.state_of.Goals as goal
 pub place_of-requires : goal.place_of-requires
 place_of-requires c =
     let a = c.args in (
-      valid-known a.config (sym c.is_valid.ensures ∙ not-false _ c.if-not-is_valid.false),
+      valid-known a.config (sym c.is_valid.ensures ∙ c.if-not-is_valid.false),
       fine-known a.config a.quote (sym c.check_quote-checked.ensures ∙ c.in-Fine.is),
     )

@@ -12,32 +12,30 @@ use Rattle.quotes.proofs.States.{mirror-row}
 use borrow.Author.Rules.{rules}
 use Rattle.quotes.proofs.inner.place_of.Goals as goal
 
--- the bucket is one of the n
--- BY HAND
-below : (c : tie.After-bucket-of) → c.bucket_of-bucket.result < c.args.config.imbalance_buckets
-below c =
-    let a = c.args in
-    omega (arith, c.bucket_of-bucket.ensures, bucket-le a.q.bid_size a.q.ask_size a.config.imbalance_buckets)
-
--- the first state of the spread is a product of small numbers
--- BY HAND
-small : (c : tie.After-bucket-of) →
-    (c.spread_of-spread.result - 1) * c.args.config.imbalance_buckets ≤ 256 * 256
-small c =
-    mul-le-mul {n₁ = c.spread_of-spread.result - 1} {m₁ = c.args.config.imbalance_buckets} {n₂ = 256} {m₂ = 256} (omega arith)
-    (omega arith)
-
 pub returns : goal.returns
 returns c =
+    let a = c.args in
+    let below : c.bucket_of-bucket.result < a.config.imbalance_buckets =
+        omega (arith, c.bucket_of-bucket.ensures, bucket-le a.q.bid_size a.q.ask_size a.config.imbalance_buckets) in
     rw (
       ← c.spread_of-spread.ensures,
       ← c.bucket_of-bucket.ensures,
       le-ltb _ _ c.if-config-spread.false,
-      mirror-row c.args.config.imbalance_buckets (c.spread_of-spread.result - 1) c.bucket_of-bucket.result (below c),
+      mirror-row a.config.imbalance_buckets (c.spread_of-spread.result - 1) c.bucket_of-bucket.result below,
     )
 
+-- the first state of the spread is a product of small numbers
 pub overflow_add-result : goal.overflow_add-result
-overflow_add-result c = omega (arith, below c, small c)
+overflow_add-result c =
+    let a = c.args in
+    omega (
+      arith,
+      c.bucket_of-bucket.ensures,
+      bucket-le a.q.bid_size a.q.ask_size a.config.imbalance_buckets,
+      mul-le-mul {n₁ = c.spread_of-spread.result - 1} {m₁ = a.config.imbalance_buckets} {n₂ = 256} {m₂ = 256} (omega arith) (omega arith),
+    )
 
 pub overflow_sub-result-2 : goal.overflow_sub-result-2
-overflow_sub-result-2 c = omega (arith, below c)
+overflow_sub-result-2 c =
+    let a = c.args in
+    omega (arith, c.bucket_of-bucket.ensures, bucket-le a.q.bid_size a.q.ask_size a.config.imbalance_buckets)
