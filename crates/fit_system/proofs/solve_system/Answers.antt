@@ -4,7 +4,6 @@
 use Rattle.fit_marking.specs.Marks.{cells_of}
 use Rattle.fit_system.specs.Rows.{total_of}
 use Rattle.fit_system.proofs.Solving.{solved-singular, solved-not-summed, solved-summed}
-use borrow.Author.Rules.{rules}
 use Rattle.fit_system.proofs.solve_system.Goals as goal
 
 pub returns-in_default : goal.returns-in_default
