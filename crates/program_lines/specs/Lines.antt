@@ -2,7 +2,6 @@
 use Rattle.std.specs.Prelude.{ℕ, zero, suc, ◌+◌, ◌≤◌, List, [], ◌∷◌, ◌++◌}
 use Rattle.refusals.specs.Refusals.{number_of}
 use Rattle.refusals.specs.declared.Check.{Check}
-use Rattle.refusals.specs.declared.Check.TheVariants as Check
 use Rattle.model.specs.Rows.{row_word}
 use Rattle.program_text.specs.Text.{decimal, space, newline}
 use Rattle.program_text.specs.Written.{hex16, Put}

@@ -13,7 +13,6 @@ use Rattle.basics.proofs.Stores.{sets_below}
 use Rattle.program_text.specs.Reading.{whole_lines, few_states, request_of, Reading, asked, bad_input, read_numbers, read_text, read_answer, recording_by, ReadBy}
 use Rattle.program_text.specs.Inner.{begin, numbers_ended, fine, NumbersBy}
 use Rattle.program_text.specs.declared.Read.{Read}
-use Rattle.program_text.specs.declared.Read.TheVariants as Read
 use Rattle.program_text.specs.declared.Numbers.{Numbers}
 use Rattle.program_text.specs.declared.Numbers.TheVariants.{All, Broken}
 

@@ -131,23 +131,23 @@ sound-end : (k : ℕ) → Sound (scan k 0 false)
 sound-end k = record { fresh = λ e. refl; word = omega arith }
 
 -- what is written of the pending digits and the bytes that are left
-written_step : (s t : Scan) (b : ℕ) (bs : List ℕ) → Sound s → Went s b t
+written_step : (s : Scan) (b : ℕ) (t : Scan) (bs : List ℕ) → Sound s → Went s b t
     → numbers_ended s (b ∷ bs) ≡ cond t.begun (numbers_ended t bs) (s.value ∷ numbers_ended t bs)
     → pending t ++ bs ≡ flat t.count (numbers_ended t bs) → pending s ++ b ∷ bs ≡ flat s.count (numbers_ended s (b ∷ bs))
-written_step s t b bs o (digit-read p q) e h =
+written_step s b t bs o (digit-read p q) e h =
     let d = digit-known b p in
     let z : digit (b - 48) ≡ b = omega arith in
     sym (pending-more s.begun s.value (b - 48) bs o.fresh q (omega arith) ∙ ap (λ (x : ℕ). pending s ++ x ∷ bs) z)
     ∙ h
     ∙ ap (flat s.count) (sym e)
-written_step s t b bs o (number-ended p q) e h =
+written_step s b t bs o (number-ended p q) e h =
     ap (λ (x : Bool). cond x (decimal s.value) [] ++ b ∷ bs) p
     ∙ (λ i. decimal s.value ++ q i ∷ h i)
     ∙ ap (flat s.count) (sym e)
 
-sound-step : (s t : Scan) (b : ℕ) → Went s b t → Sound t
-sound-step s t b (digit-read p q) = sound-digit s b q
-sound-step s t b (number-ended p q) = sound-end (s.count + 1)
+sound-step : (s : Scan) (b : ℕ) (t : Scan) → Went s b t → Sound t
+sound-step s b t (digit-read p q) = sound-digit s b q
+sound-step s b t (number-ended p q) = sound-end (s.count + 1)
 
 -- a byte at which the walk stops, or goes on
 pub goes : (s : Scan) (b : ℕ) → (step_of s b ≡ Off) ⊎ ((t : Scan) × (step_of s b ≡ On t))
@@ -166,7 +166,7 @@ written (b ∷ bs) s o e = by (goes s b) (λ t g f. written bs t g f)
         → pending s ++ b ∷ bs ≡ flat s.count (numbers_ended s (b ∷ bs))
     by (inl g) f = let n = sym (fine-off s b bs g) ∙ e in absurd (zero-not-one cc)
     by (inr (t, g)) f =
-        written_step s t b bs o (went s b t g) (ended-on s b bs t g) (f t (sound-step s t b (went s b t g)) (sym (fine-on s b bs t g) ∙ e))
+        written_step s b t bs o (went s b t g) (ended-on s b bs t g) (f t (sound-step s b t (went s b t g)) (sym (fine-on s b bs t g) ∙ e))
 
 pub ended-words : (b : List ℕ) (s : Scan) → Sound s → AllWords (numbers_ended s b)
 ended-words [] s o = tt
@@ -179,7 +179,7 @@ ended-words (b ∷ bs) s o = by (goes s b) (λ t g. ended-words bs t g)
     by : (step_of s b ≡ Off) ⊎ ((t : Scan) × (step_of s b ≡ On t)) → ((t : Scan) → Sound t → AllWords (numbers_ended t bs)) → AllWords (numbers_ended s (b ∷ bs))
     by (inl g) f = subst AllWords (sym (ended-off s b bs g)) tt
     by (inr (t, g)) f =
-        subst AllWords (sym (ended-on s b bs t g)) (either_way t.begun (numbers_ended t bs) (f t (sound-step s t b (went s b t g))))
+        subst AllWords (sym (ended-on s b bs t g)) (either_way t.begun (numbers_ended t bs) (f t (sound-step s b t (went s b t g))))
 
 -- ---- lines
 

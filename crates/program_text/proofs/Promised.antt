@@ -9,7 +9,6 @@ use Rattle.program_text.specs.Text.{text_of, Admissible}
 use Rattle.program_text.specs.Reading.{Reading, asked, bad_input, read_text, read_answer, recording_by, ReadBy}
 use Rattle.program_text.specs.declared.Request.{Request}
 use Rattle.program_text.specs.declared.Read.{Read}
-use Rattle.program_text.specs.declared.Read.TheVariants as Read
 use Rattle.program_text.proofs.Faithful.{text-read, read-text, read-bad, recording-front}
 
 -- the reading behind an answer

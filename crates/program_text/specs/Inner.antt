@@ -3,7 +3,6 @@
 use Rattle.std.specs.Prelude.{ℕ, ◌+◌, ◌*◌, ◌-◌, ◌%◌, ◌^◌, ◌≡◌, Bool, true, false, cond, not, ◌&&◌, List, [], ◌∷◌, leb, ltb, eqb, length, drop, set}
 use Rattle.std.proofs.lemmas.List.Edits.{sets}
 use Rattle.program_text.specs.Text.{space, newline}
-use Rattle.program_text.specs.declared.Read.TheVariants as Read
 use Rattle.program_text.specs.declared.Scan.{Scan}
 use Rattle.program_text.specs.declared.Step.{Step}
 use Rattle.program_text.specs.declared.Step.TheVariants.{On, Off}

@@ -4,7 +4,6 @@ use Rattle.std.specs.Prelude.{ℕ, ◌*◌, ◌-◌, ◌/◌, ◌%◌, ◌≡◌
 use Rattle.std.proofs.lemmas.List.Edits.{sets}
 use Rattle.program_text.specs.declared.Request.{Request}
 use Rattle.program_text.specs.declared.Read.{Read}
-use Rattle.program_text.specs.declared.Read.TheVariants as Read
 use Rattle.program_text.specs.Inner.{numbers_ended, begin, fine}
 
 -- line 1 and whole quotes, at most 1,000
