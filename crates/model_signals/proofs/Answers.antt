@@ -8,7 +8,6 @@ use borrow.Author.Tests.{not-true, not-false}
 use Rattle.model.specs.Rows.{row_at}
 use Rattle.model.specs.declared.StateEstimate.{StateEstimate}
 use Rattle.refusals.specs.declared.Check.{Check}
-use Rattle.refusals.specs.declared.Check.TheVariants as Check
 use Rattle.refusals.specs.declared.Refusal.{Refusal}
 use Rattle.refusals.specs.declared.Refusal.TheVariants.{ModelRow}
 use Rattle.config.specs.declared.MicroPriceConfig.{MicroPriceConfig}

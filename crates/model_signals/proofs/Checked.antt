@@ -16,7 +16,6 @@ use Rattle.model.specs.declared.StateStatus.TheVariants.{Calibrated}
 use Rattle.model.proofs.Rows.{row-held}
 use Rattle.refusals.specs.Refusals.{refuse_if, first_of, first_from}
 use Rattle.refusals.specs.declared.Check.{Check}
-use Rattle.refusals.specs.declared.Check.TheVariants as Check
 use Rattle.refusals.specs.declared.Refusal.TheVariants.{ModelRow}
 use Rattle.refusals.proofs.Refusals.{first_fine, from-fine}
 use Rattle.config.specs.Configuration.{states, valid, check_config}

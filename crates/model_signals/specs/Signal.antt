@@ -10,7 +10,6 @@ use Rattle.model.specs.declared.StateStatus.{StateStatus}
 use Rattle.model.specs.declared.StateStatus.TheVariants.{Calibrated, Rare, NoPriceMove, OutsideQuotes}
 use Rattle.refusals.specs.Refusals.{refuse_if, first_of}
 use Rattle.refusals.specs.declared.Check.{Check}
-use Rattle.refusals.specs.declared.Check.TheVariants as Check
 use Rattle.refusals.specs.declared.Refusal.TheVariants.{ModelRow}
 use Rattle.config.specs.Configuration.{check_config}
 use Rattle.config.specs.declared.MicroPriceConfig.{MicroPriceConfig}

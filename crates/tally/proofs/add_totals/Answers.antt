@@ -1,6 +1,5 @@
 -- `tally::add_totals` meets its contract: the change is added at a, then at b the change from `to` to `from`, which is its negative (`change-neg`). `add_at`
--- asks for a total smaller than 2^60: with both added each total is within its limit and the change is small (`change-size`), so each was small before its own
--- addition (`totals-first`, `totals-second`).
+-- asks for a total smaller than 2^60: with both added each total is within its limit and the change is small, so each was small before its own addition.
 use Rattle.tally.proofs.Sums.{change-neg}
 use Rattle.tally.proofs.add_totals.Goals as goal
 

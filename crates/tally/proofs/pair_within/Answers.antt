@@ -1,6 +1,6 @@
 -- `tally::pair_within` meets its contract: whether a pair and its mirror can be entered is whether their two cells of one table and their two totals stay
--- within the limits (`pair-within`). The table is `stay` where the mids are the same, so that the change is 0 (`zero_same`), and `moved` where they are not
--- (`zero-other`); the law takes which as a Bool. No loop. `cells_within` asks that the cells lie in the table (`cells-below`).
+-- within the limits (`pair-within`). The table is `stay` where the mids are the same, so that the change is 0 (`zero_same`), and `moved` where they are not;
+-- the law takes which as a Bool. No loop.
 use mathlib.Core.Bool.{true}
 use Rattle.tally.proofs.Touched.{zero_same, pair-within}
 use Rattle.tally.proofs.pair_within.Goals as goal

@@ -1,5 +1,5 @@
 -- `tally::totals_within` meets its contract: whether both totals are within the limit with the change at a and its negative at b. At one place the two cancel,
--- and the total as it is has to be within (`totals-same`); at two places each with its own addition (`totals-other`, with `change-neg` for the second).
+-- and the total as it is has to be within; at two places each with its own addition (`totals-other`, with `change-neg` for the second).
 use Rattle.tally.specs.Totals.{change}
 use Rattle.tally.proofs.Touched.{totals-other}
 use Rattle.tally.proofs.Sums.{change-neg}
