@@ -10,15 +10,27 @@ use Rattle.fit.proofs.Known.{Fittable, fit-known, exact-of, usable-of, scratch-o
 use borrow.Author.Rules.{rules}
 use Rattle.fit.proofs.inner.fit_counts_with.Goals as goal
 
+pub state_count-n-requires : goal.state_count-n-requires
+state_count-n-requires c =
+    let a = c.args in
+    let m = memory a.rec a.stay.now a.moved.now a.move_half_ticks.now in
+    (fit-known a.config m (length a.scratch.now) (length a.model.now) (sym c.check_fit-k.ensures ∙ c.in-Fine.is)).conf
+
+pub mirrors_of-mirrors-requires : goal.mirrors_of-mirrors-requires
+mirrors_of-mirrors-requires c =
+    let a = c.args in
+    let m = memory a.rec a.stay.now a.moved.now a.move_half_ticks.now in
+    (fit-known a.config m (length a.scratch.now) (length a.model.now) (sym c.check_fit-k.ensures ∙ c.in-Fine.is)).conf
+
 pub fit_states-answer-requires : goal.fit_states-answer-requires
 fit_states-answer-requires c =
-    let f = (let known_fact : let a = c.args in Fittable a.config (memory a.rec a.stay.now a.moved.now a.move_half_ticks.now) (length a.scratch.now) (length a.model.now) = let a = c.args in
-    fit-known a.config (memory a.rec a.stay.now a.moved.now a.move_half_ticks.now) (length a.scratch.now) (length a.model.now)
-    (sym c.check_fit-k.ensures ∙ c.in-Fine.is) in known_fact) in
+    let a = c.args in
+    let m = memory a.rec a.stay.now a.moved.now a.move_half_ticks.now in
+    let f = fit-known a.config m (length a.scratch.now) (length a.model.now) (sym c.check_fit-k.ensures ∙ c.in-Fine.is) in
     rw c.state_count-n.ensures (
-      usable-of f c.mirrors_of-mirrors.result (omega (arith, c.mirrors_of-mirrors.ok)) c.mirrors_of-mirrors.ensures,
+      usable-of f c.mirrors_of-mirrors.result (omega (arith, c.mirrors_of-mirrors.type_inv)) c.mirrors_of-mirrors.ensures,
       exact-of f,
-      scratch-of c.args.scratch.now f,
+      scratch-of a.scratch.now f,
       f.model-long,
     )
 
@@ -29,13 +41,3 @@ returns c =
     _ c.mirrors_of-mirrors.result c.state_count-n.ensures (sym c.check_fit-k.ensures ∙ c.in-Fine.is)
     c.mirrors_of-mirrors.ensures c.fit_states-answer.ensures
     (c.clear.ensures ∙ ap (λ k. replicate k pos_zero) c.scratch-1.given)
-
-pub state_count-n-requires : goal.state_count-n-requires
-state_count-n-requires c = (let known_fact : let a = c.args in Fittable a.config (memory a.rec a.stay.now a.moved.now a.move_half_ticks.now) (length a.scratch.now) (length a.model.now) = let a = c.args in
-    fit-known a.config (memory a.rec a.stay.now a.moved.now a.move_half_ticks.now) (length a.scratch.now) (length a.model.now)
-    (sym c.check_fit-k.ensures ∙ c.in-Fine.is) in known_fact).conf
-
-pub mirrors_of-mirrors-requires : goal.mirrors_of-mirrors-requires
-mirrors_of-mirrors-requires c = (let known_fact : let a = c.args in Fittable a.config (memory a.rec a.stay.now a.moved.now a.move_half_ticks.now) (length a.scratch.now) (length a.model.now) = let a = c.args in
-    fit-known a.config (memory a.rec a.stay.now a.moved.now a.move_half_ticks.now) (length a.scratch.now) (length a.model.now)
-    (sym c.check_fit-k.ensures ∙ c.in-Fine.is) in known_fact).conf

@@ -1,4 +1,6 @@
 use Prim.Native.Nat.{◌≤◌, ◌-◌}
+use mathlib.Core.Path.{ap}
+use mathlib.Core.Bool.{not}
 use native.Mathlib.Omega.{arith}
 use borrow.Author.Rules.{rules}
 use Rattle.fit.proofs.Judging.{OfRows, Seen, seen_none, seen_more, judged-no, judged-none, judged-fine}
