@@ -4,8 +4,6 @@
 
 ghost use Rattle.std.specs.Prelude.{◌≡◌, ◌≤◌, length};
 
-use libc::{STDIN_FILENO, STDOUT_FILENO};
-
 fn input_room() -> [u8; 16384]
     ensures { 16384 ≡ length result }
 {
@@ -116,7 +114,7 @@ fn add_times(times: u64, part: &[u8], text: &mut [u8], n: usize) -> usize
 }
 
 // A line of a case: its name, which begins a new text; what is to be added to the text; or the end, where the text is run. Answers how long the text then is.
-fn run_line(line: &[u8], text: &mut [u8], n: usize) -> usize
+fn run_line(rt: &impl Print, line: &[u8], text: &mut [u8], n: usize) -> usize
     requires { n ≤ length text.old }
     ensures { result ≤ length text.old }
 {
@@ -125,37 +123,37 @@ fn run_line(line: &[u8], text: &mut [u8], n: usize) -> usize
     }
     let b = line[0];
     if b == 99 {
-        io::write_all(STDOUT_FILENO, line);
-        io::write_all(STDOUT_FILENO, b"\n");
+        let _ = rt.write_all(line);
+        let _ = rt.write_all(b"\n");
         return 0;
     }
     if b == 101 {
-        show(&text[..n]);
+        show(rt, &text[..n]);
         return n;
     }
     let at = after_space(line);
     add_times(count_of(line), &line[at..], text, n)
 }
 
-fn show(text: &[u8]) {
+fn show(rt: &impl Print, text: &[u8]) {
     let mut out = output_room();
     let n = program_report::evening_text(text, &mut out);
-    io::write_all(STDOUT_FILENO, &out[..n]);
+    let _ = rt.write_all(&out[..n]);
 }
 
-fn run_all(input: &[u8], text: &mut [u8]) {
+fn run_all(rt: &impl Print, input: &[u8], text: &mut [u8]) {
     let mut n: usize = 0;
     let mut at: usize = 0;
     while at < input.len() {
         let end = line_end(input, at);
-        n = run_line(&input[at..end], text, n);
+        n = run_line(rt, &input[at..end], text, n);
         at = end + 1;
     }
 }
 
-fn main() {
+fn main(rt: HostRuntime) {
     let mut input = input_room();
     let mut text = text_room();
-    let got = io::read_full(STDIN_FILENO, &mut input);
-    run_all(&input[..got], &mut text);
+    let got = cases_shared::reading::read_full(&mut rt.stdin(), &mut input);
+    run_all(&rt, &input[..got], &mut text);
 }

@@ -6,7 +6,6 @@ ghost use Rattle.fit_series.specs.Inner.{Scratch};
 
 use fit_linear::Solve;
 use fit_series::Sum;
-use libc::STDOUT_FILENO;
 
 // A number below 2^31 that is fixed by four.
 fn mixed(kind: u64, n: u64, r: u64, k: u64) -> u64
@@ -171,102 +170,99 @@ fn fill(s: &mut [f64], kind: u64, n: u64, w: usize)
 }
 
 // A float's bits, on a line.
-fn print_bits(x: f64) {
-    io::print_hex(STDOUT_FILENO, floats::to_bits(x), 16);
-    io::write_all(STDOUT_FILENO, b"\n");
+fn print_bits(rt: &impl Print, x: f64) {
+    let bits = floats::to_bits(x);
+    let _ = println!(rt; "{bits:016x}");
 }
 
 // The floats from `start` up to `end`.
-fn show(s: &[f64], start: usize, end: usize) {
+fn show(rt: &impl Print, s: &[f64], start: usize, end: usize) {
     let mut i = start;
     while i < end {
         if i < s.len() {
-            print_bits(s[i]);
+            print_bits(rt, s[i]);
         }
         i += 1;
     }
 }
 
 // The series and the share of a solved system.
-fn finish(s: &mut [f64], n: usize)
+fn finish(rt: &impl Print, s: &mut [f64], n: usize)
     requires { Scratch n s.old }
 {
     let sum = n * (2 * n + 2);
     let found = fit_series::inner::sum_series(s, n, 10_000);
     match found {
         Sum::Converged => {
-            io::write_all(STDOUT_FILENO, b"converged\n");
-            show(s, sum, sum + n);
+            let _ = rt.println("converged");
+            show(rt, s, sum, sum + n);
         }
         Sum::NotConverged => {
-            io::write_all(STDOUT_FILENO, b"not converged\n");
+            let _ = rt.println("not converged");
         }
     }
     fit_series::inner::fallback_within_moves(s, n, 10);
-    io::write_all(STDOUT_FILENO, b"share\n");
-    show(s, sum + n, sum + 2 * n);
+    let _ = rt.println("share");
+    show(rt, s, sum + n, sum + 2 * n);
 }
 
 // One system, solved and printed.
-fn run(s: &mut [f64], kind: u64, n: usize)
+fn run(rt: &impl Print, s: &mut [f64], kind: u64, n: usize)
     requires { (n ≤ 27) × (1728 ≤ length s.old) }
 {
     let w = 2 * n + 2;
     fill(s, kind, n as u64, w);
     let found = fit_linear::inner::gauss_jordan(s, n, w);
-    io::write_all(STDOUT_FILENO, b"kind ");
-    io::print_decimal(STDOUT_FILENO, kind);
-    io::write_all(STDOUT_FILENO, b" states ");
-    io::print_decimal(STDOUT_FILENO, n as u64);
+    let _ = print!(rt; "kind {kind} states {n}");
     match found {
         Solve::Solved => {
-            io::write_all(STDOUT_FILENO, b" solved\n");
-            show(s, 0, n * w);
-            finish(s, n);
+            let _ = rt.println(" solved");
+            show(rt, s, 0, n * w);
+            finish(rt, s, n);
         }
         Solve::Singular => {
-            io::write_all(STDOUT_FILENO, b" singular\n");
-            show(s, 0, n * w);
+            let _ = rt.println(" singular");
+            show(rt, s, 0, n * w);
         }
     }
 }
 
 // The small systems of a kind.
-fn small(s: &mut [f64], kind: u64)
+fn small(rt: &impl Print, s: &mut [f64], kind: u64)
     requires { 1728 ≤ length s.old }
 {
-    run(s, kind, 1);
-    run(s, kind, 2);
-    run(s, kind, 3);
-    run(s, kind, 6);
+    run(rt, s, kind, 1);
+    run(rt, s, kind, 2);
+    run(rt, s, kind, 3);
+    run(rt, s, kind, 6);
 }
 
-fn all_small(s: &mut [f64])
+fn all_small(rt: &impl Print, s: &mut [f64])
     requires { 1728 ≤ length s.old }
 {
-    small(s, 0);
-    small(s, 1);
-    small(s, 2);
-    small(s, 3);
-    small(s, 4);
-    small(s, 5);
-    small(s, 6);
-    small(s, 7);
-    small(s, 8);
+    small(rt, s, 0);
+    small(rt, s, 1);
+    small(rt, s, 2);
+    small(rt, s, 3);
+    small(rt, s, 4);
+    small(rt, s, 5);
+    small(rt, s, 6);
+    small(rt, s, 7);
+    small(rt, s, 8);
 }
 
-fn large(s: &mut [f64])
+fn large(rt: &impl Print, s: &mut [f64])
     requires { 1728 ≤ length s.old }
 {
-    run(s, 0, 27);
-    run(s, 3, 27);
-    run(s, 4, 27);
-    run(s, 7, 27);
+    run(rt, s, 0, 27);
+    run(rt, s, 3, 27);
+    run(rt, s, 4, 27);
+    run(rt, s, 7, 27);
 }
 
-fn main() {
+fn main(rt: HostRuntime) {
     let mut scratch = [0.0; 1728];
     let s: &mut [f64] = &mut scratch;
-    all_small(s);
-    large(s);
+    all_small(&rt, s);
+    large(&rt, s);
 }

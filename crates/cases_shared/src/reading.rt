@@ -1,8 +1,26 @@
-// The words of a case, read from a line of text. Where a function has a `requires`, each caller proves it.
+// Standard input, and the words of a case, read from a line of text. Where a function has a `requires`, each caller proves it.
 ghost use Rattle.std.specs.Prelude.{◌<◌, ◌≤◌, length};
 
 use config::MicroPriceConfig;
 use quotes::TopOfBook;
+use std::io::Read;
+
+// Reads until the buffer is full, the input ends or a read fails. Answers how many bytes it put in front of the buffer.
+pub fn read_full<R: Read>(reader: &mut R, buffer: &mut [u8]) -> usize
+    ensures { result ≤ length buffer.new }
+{
+    let mut done: usize = 0;
+    while done < buffer.len() {
+        let Ok(n) = reader.read(&mut buffer[done..]) else {
+            return done;
+        };
+        if n == 0 {
+            return done;
+        }
+        done += n;
+    }
+    done
+}
 
 // A word, or 0 past the end.
 pub fn word_at(words: &[u64], i: usize) -> u64 {

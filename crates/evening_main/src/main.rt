@@ -5,7 +5,7 @@
 ghost use Rattle.std.specs.Prelude.{◌≡◌, length};
 ghost use Rattle.evening_main.specs.Inner.{InputWithin};
 
-use libc::{STDERR_FILENO, STDIN_FILENO, STDOUT_FILENO};
+use std::io::Read;
 
 // What reading comes to: so many bytes, or a failure.
 #[derive(Clone, Copy)]
@@ -28,23 +28,22 @@ fn output_buffer() -> [u8; 4350]
 }
 
 // One read; no bytes are the end of the input.
-fn read_some(buffer: &mut [u8]) -> Input
+fn read_some<R: Read>(reader: &mut R, buffer: &mut [u8]) -> Input
     ensures { InputWithin (length buffer.old) result }
 {
-    let got = libc::read(STDIN_FILENO, buffer);
-    if got < 0 {
-        return Input::Failed;
+    match reader.read(buffer) {
+        Ok(n) => Input::Bytes(n),
+        Err(_) => Input::Failed,
     }
-    Input::Bytes(io::count(got, buffer))
 }
 
 // Reads until the input ends, the buffer is full or a read fails.
-fn read_input(buffer: &mut [u8]) -> Input
+fn read_input<R: Read>(reader: &mut R, buffer: &mut [u8]) -> Input
     ensures { InputWithin (length buffer.old) result }
 {
     let mut at: usize = 0;
     while at < buffer.len() {
-        let more = read_some(&mut buffer[at..]);
+        let more = read_some(reader, &mut buffer[at..]);
         let Input::Bytes(n) = more else {
             return Input::Failed;
         };
@@ -57,26 +56,20 @@ fn read_input(buffer: &mut [u8]) -> Input
 }
 
 // Prints what the evening program prints for an input.
-fn answer(input: &[u8]) {
+fn answer(rt: &(impl Print + Eprint), input: &[u8]) {
     let mut out = output_buffer();
     let n = program_report::evening_text(input, &mut out);
-    if !io::write_all(STDOUT_FILENO, &out[..n]) {
-        io::write_all(
-            STDERR_FILENO,
-            b"evening_main: cannot write standard output\n",
-        );
+    if rt.write_all(&out[..n]).is_err() {
+        let _ = rt.eprintln("evening_main: cannot write standard output");
     }
 }
 
-fn main() {
+fn main(rt: HostRuntime) {
     let mut buffer = input_buffer();
-    let found = read_input(&mut buffer);
-    match found {
-        Input::Bytes(n) => {
-            answer(&buffer[..n]);
-        }
+    match read_input(&mut rt.stdin(), &mut buffer) {
+        Input::Bytes(n) => answer(&rt, &buffer[..n]),
         Input::Failed => {
-            io::write_all(STDERR_FILENO, b"evening_main: cannot read standard input\n");
+            let _ = rt.eprintln("evening_main: cannot read standard input");
         }
     }
 }

@@ -10,7 +10,6 @@ use Rattle.program_text.specs.Written.{Put}
 use Rattle.program_text.specs.Reading.{Reading, asked, bad_input, read_text, ReadBy}
 use Rattle.program_text.specs.declared.Request.{Request}
 use Rattle.program_text.specs.declared.Read.{Read}
-use Rattle.program_text.specs.declared.Read.TheVariants as Read
 use Rattle.program_text.proofs.Faithful.{text-read}
 use Rattle.program_text.proofs.Promised.{reading-bad, answer-request}
 use Rattle.program_lines.specs.Lines.{PutIn}
