@@ -18,7 +18,6 @@ use Rattle.fit_series.specs.Inner.{width, sum_at, solved_g1, solved_f, solved_b,
 use Rattle.fit_linear.specs.declared.Solve.{Solve}
 use Rattle.fit_linear.specs.declared.Solve.TheVariants.{Solved, Singular}
 use Rattle.fit_series.specs.declared.Sum.{Sum}
-use Rattle.fit_series.specs.declared.Sum.TheVariants as Sum
 use Rattle.basics.proofs.Tests.{zero-not-one, row_in}
 use Rattle.fit_linear.proofs.Cells.{eliminated-of}
 use Rattle.fit_series.proofs.Rounds.{summed-of, shared_of}

@@ -18,6 +18,10 @@ use Rattle.refusals.proofs.Refusals.{first_step, first-stop, first-end}
 use Rattle.count_check.proofs.Walks.{whole}
 use Rattle.count_check.proofs.check_states.Given as goal
 
+abbrev pub state : ℕ → List ℕ → Bool → List ℕ → List ℕ → List ℤ → List ℕ → List ℕ → List ℕ → ℕ → Check
+state n mirrors imaged stay moved totals sb mb tb =
+    check_state n (λ k. get_or mirrors k 0) (tables_in imaged stay moved totals sb mb tb)
+
 abbrev pub invariant-loop-i : goal.invariant-loop-i
 invariant-loop-i l =
     first_from (state l.n l.mirrors l.imaged l.stay l.moved l.move_half_ticks l.sb l.mb l.tb) 0 l.n ≡ first_from (state l.n l.mirrors l.imaged l.stay l.moved l.move_half_ticks l.sb l.mb l.tb) l.i (l.n - l.i)

@@ -18,6 +18,10 @@ use Rattle.count_check.proofs.Answers.{cell-is}
 use Rattle.count_check.proofs.Walks.{whole, all-step, all-stop, all_end}
 use Rattle.count_check.proofs.row_mirrored.Given as goal
 
+abbrev pub cell : ℕ → List ℕ → List ℕ → List ℕ → List ℕ → List ℕ → Bool → ℕ → ℕ → Bool
+cell n mirrors stay moved sb mb imaged i =
+    cell_mirrored n (λ k. get_or mirrors k 0) (tables (cells_in imaged stay sb) (cells_in imaged moved mb) []) i
+
 abbrev pub invariant-loop-j : goal.invariant-loop-j
 invariant-loop-j l =
     all_from (cell l.n l.mirrors l.stay l.moved l.sb l.mb l.imaged l.i) 0 l.n ≡ all_from (cell l.n l.mirrors l.stay l.moved l.sb l.mb l.imaged l.i) l.j (l.n - l.j)

@@ -1,7 +1,6 @@
 -- `fit_estimates::adjust` meets its contract: half the difference times half a tick, which is the definition once the call's float is known; the tick is within
 -- its limit.
 use mathlib.Core.Path.{ap}
-use borrow.Author.Rules.{rules}
 use lib.Ieee.{binary64, sub, mul, div}
 use Rattle.floats.specs.Floats.{two}
 use Rattle.fit_estimates.specs.Estimates.{adjusted}

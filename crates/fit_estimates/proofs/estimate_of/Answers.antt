@@ -2,9 +2,6 @@
 -- (`estimate-made`); the status is judged on the adjustment and the half spread that the calls gave. Tick times spread fits, since both are small
 -- (`mul-le-mul`). No loop.
 use mathlib.Core.Path.{◌∙◌}
-use native.Mathlib.Nat.{mul-le-mul}
-use native.Mathlib.Omega.{arith}
-use borrow.Author.Rules.{rules}
 use Rattle.model.specs.Status.{status_number}
 use Rattle.fit_estimates.specs.Estimates.{judged}
 use Rattle.fit_estimates.proofs.Marked.{estimate-made}

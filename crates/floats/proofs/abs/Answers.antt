@@ -1,7 +1,6 @@
 -- `floats::abs` meets its contract: the size of a float below zero is its negation (`abs-below`), of any other, NaN too, the float with zero as plus zero
 -- (`abs-above`).
 use mathlib.Core.Path.{◌∙◌}
-use borrow.Author.Rules.{rules}
 use Rattle.floats.proofs.Helpers.{abs-below, abs-above}
 use Rattle.floats.proofs.abs.Goals as goal
 

@@ -1,6 +1,5 @@
 -- `floats::from_bits` meets its contract: bits that, without the sign, are above those of infinity are a NaN (`pattern-nan`), and 0 / 0 computes to NaN; any
 -- other bits the machine's conversion takes, which asks that they are no NaN's (`pattern-no-nan`).
-use borrow.Author.Rules.{rules}
 use lib.Ieee.{of_bits, div}
 use mathlib.Core.Path.{sym}
 use Rattle.floats.proofs.Helpers.{pattern-nan, pattern-no-nan}

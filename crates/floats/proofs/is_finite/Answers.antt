@@ -2,7 +2,6 @@
 use mathlib.Core.Path.{◌∙◌}
 use mathlib.Core.Bool.{not, ◌&&◌}
 use lib.Ieee.{eq}
-use borrow.Author.Rules.{rules}
 use Rattle.floats.proofs.Finite.{finite-is}
 use Rattle.floats.proofs.is_finite.Goals as goal
 

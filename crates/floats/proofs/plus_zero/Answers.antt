@@ -2,7 +2,6 @@
 -- float stays (`plus-other`).
 use mathlib.Core.Path.{sym, subst}
 use lib.Dec.{T}
-use lib.Ieee.{binary64, fits}
 use Rattle.floats.proofs.Helpers.{plus-zero, plus-other}
 use Rattle.floats.proofs.plus_zero.Goals as goal
 

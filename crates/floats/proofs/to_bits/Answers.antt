@@ -1,6 +1,5 @@
 -- `floats::to_bits` meets its contract: only a NaN differs from itself, and its bits are the one pattern (`nan_is`); any other float the machine's conversion
 -- takes, which asks that it is no NaN (`no_nan`).
-use mathlib.Core.Path.{refl}
 use lib.Ieee.{to_bits}
 use Rattle.floats.proofs.Helpers.{nan_is, no_nan}
 use Rattle.floats.proofs.to_bits.Goals as goal

@@ -1,7 +1,6 @@
 -- `floats::inner::half_spread` meets its contract: the product is at most 2^53, so it fits its type and is exact as a float; that float divided by two is the
 -- definition's half (`half_is`).
 use Prim.Native.Nat.{◌*◌}
-use borrow.Author.Rules.{rules}
 use Rattle.floats.proofs.Helpers.{half_is}
 use Rattle.floats.proofs.inner.half_spread.Goals as goal
 

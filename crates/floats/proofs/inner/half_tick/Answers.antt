@@ -1,5 +1,4 @@
 -- `floats::inner::half_tick` meets its contract: the tick as a float, divided by two, is the definition's half (`half_is`).
-use borrow.Author.Rules.{rules}
 use Rattle.floats.proofs.Helpers.{half_is}
 use Rattle.floats.proofs.inner.half_tick.Goals as goal
 

@@ -1,0 +1,25 @@
+-- `count_check::check_tables` meets its contract: the check by a table of mirrors is the check by `mirror_of`, since both agree on the states of the
+-- configuration (`check-by`). `check_counts` asks that the table holds 256 numbers, at least one for each state, and that each is below the number of states
+-- (`mirrors-known`).
+use native.Mathlib.Omega.{arith}
+use borrow.Author.Rules.{rules}
+use Rattle.config.specs.Configuration.{states}
+use Rattle.quotes.specs.States.{mirror_of}
+use Rattle.calibrator.specs.Record.{counts_of}
+use Rattle.count_check.specs.Inner.{tables_in}
+use Rattle.count_check.proofs.Answers.{check-by, mirrors-known}
+use Rattle.count_check.proofs.check_tables.Goals as goal
+
+pub check_counts-requires : goal.check_counts-requires
+check_counts-requires c =
+    let p = c.requires in
+    let m = c.mirrors_of-mirrors in
+    rw c.state_count-n.ensures
+    (mirrors-known c.args.config m.result p.0 (omega (arith, m.type_inv)) m.ensures, p.1)
+
+pub returns : goal.returns
+returns c =
+    let a = c.args in
+    let k = counts_of a.counters (tables_in a.imaged a.stay.now a.moved.now a.move_half_ticks.now a.sb.now a.mb.now a.tb.now) in
+    check-by c.state_count-n.result (states a.config) c.mirrors_of-mirrors.result (mirror_of a.config.imbalance_buckets) k
+    c.check_counts.result c.state_count-n.ensures c.mirrors_of-mirrors.ensures c.check_counts.ensures

@@ -1,0 +1,20 @@
+use Prim.Native.Nat.{◌-◌}
+use mathlib.Core.Path.{◌≡◌, refl, sym, ◌∙◌}
+use mathlib.Core.Bool.{not}
+use native.Mathlib.Omega.{arith}
+use lib.IntN.{pos}
+use lib.ListN.{get_or, drop}
+use borrow.Author.Count.{falls}
+use Rattle.basics.specs.Lists.{any}
+use Rattle.tally.specs.Entries.{over_total}
+use Rattle.count_check.specs.Inner.{totals_in}
+use Rattle.count_check.proofs.Totals.{over-is}
+use Rattle.count_check.proofs.Walks.{any_step, any-stop, any-end}
+use Rattle.count_check.proofs.Readings.{totals-length}
+use Rattle.count_check.proofs.totals_over.Goals as goal
+
+pub returns : goal.returns
+returns c =
+    let a = c.args in
+    sym (c.loop-i.invariant
+    ∙ any-end over_total (pos 0) _ a.n (totals-length _ _ a.t.now a.b.now c.requires) c.loop-i.i c.loop-i-test.false)

@@ -1,0 +1,20 @@
+-- `recording::window_of` meets its contract: 7, 14 and 15 are judged in the definition's order. The two ends are the numbers of quotes before the two times,
+-- and the part would end before it begins exactly where the definition says 15. The ways out: words that are no multiple of five (`way-uneven`), times not in
+-- order (`way-unsorted`), a backward window with a quote in it (`way-backward`), and the part (`way-part`). No loop.
+use mathlib.Core.Path.{sym, ◌∙◌}
+use borrow.Author.Tests.{not-true, not-false}
+use Rattle.recording.proofs.Windows.{way-uneven, way-unsorted, way-backward, way-part}
+use borrow.Author.Rules.{rules}
+use Rattle.recording.proofs.window_of.Goals as goal
+
+pub returns-then-past-first : goal.returns-then-past-first
+returns-then-past-first c =
+    way-backward c.args.recording.now c.args.start c.args.end c.if-recording-ne0.false _ _
+    (sym c.is_sorted.ensures ∙ c.if-not-is_sorted.false) c.quotes_before-first.ensures
+    c.quotes_before-past.ensures c.if-past-first.true
+
+pub returns : goal.returns
+returns c =
+    way-part c.args.recording.now c.args.start c.args.end c.if-recording-ne0.false _ _
+    (sym c.is_sorted.ensures ∙ c.if-not-is_sorted.false) c.quotes_before-first.ensures
+    c.quotes_before-past.ensures c.if-past-first.false
