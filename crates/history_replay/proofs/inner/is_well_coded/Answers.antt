@@ -1,5 +1,6 @@
 use Prim.Native.Nat.{◌*◌, ◌-◌}
 use mathlib.Core.Path.{◌≡◌, ap}
+use mathlib.Core.Bool.{not}
 use native.Mathlib.Omega.{arith}
 use lib.ListN.{length}
 use Rattle.basics.specs.Lists.{all_from}
@@ -14,5 +15,5 @@ loop-k-preserved c =
     let l = c.loop-k in (
       l.invariant.0,
       coded-step a.room a.answers a.calls.now l.invariant.0 l.k l.invariant.1
-          c.loop-k-test.true c.is_call.ensures c.if-not-is_call.false,
+          c.loop-k-test.true c.is_call.ensures (ap not c.if-not-is_call.false),
     )
