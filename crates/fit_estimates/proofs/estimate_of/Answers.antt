@@ -1,6 +1,6 @@
 -- `fit_estimates::estimate_of` meets its contract: each field by a call. The way out: the two adjustments, the share and the status are those of document 01
--- (`estimate-made`); the status is judged on the adjustment and the half spread that the calls gave. Tick times spread fits, since both are small
--- (`mul-le-mul`). No loop.
+-- (`estimate-made`); the status is judged on the adjustment and the half spread that the calls gave. Tick times spread fits, since both are small.
+-- No loop.
 use mathlib.Core.Path.{◌∙◌}
 use Rattle.model.specs.Status.{status_number}
 use Rattle.fit_estimates.specs.Estimates.{judged}

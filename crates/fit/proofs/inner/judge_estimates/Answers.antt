@@ -1,0 +1,30 @@
+use Prim.Native.Nat.{◌≤◌, ◌-◌}
+use mathlib.Core.Path.{ap}
+use mathlib.Core.Bool.{not}
+use native.Mathlib.Omega.{arith}
+use borrow.Author.Rules.{rules}
+use Rattle.fit.proofs.Judging.{OfRows, Seen, seen_none, seen_more, judged-no, judged-none, judged-fine}
+use Rattle.fit.proofs.inner.judge_estimates.Goals as goal
+
+pub returns-then-not-is_representable : goal.returns-then-not-is_representable
+returns-then-not-is_representable c least totals m =
+    judged-no (c.loop-i.invariant.1 least totals m) (c.state_estimate-e.ensures least totals m) c.is_representable.ensures _
+    (omega arith) (ap not c.if-not-is_representable.true)
+
+pub loop-i-preserved : goal.loop-i-preserved
+loop-i-preserved c = (
+      omega arith,
+      λ least totals m. seen_more (c.loop-i.invariant.1 least totals m) (c.state_estimate-e.ensures least totals m)
+          c.is_representable.ensures (ap not c.if-not-is_representable.false),
+    )
+
+pub returns-then-not-found : goal.returns-then-not-found
+returns-then-not-found c least totals m =
+    judged-none (c.loop-i.invariant.1 least totals m) (omega arith) (ap not c.if-not-found.true)
+
+pub returns : goal.returns
+returns c least totals m =
+    judged-fine (c.loop-i.invariant.1 least totals m) (omega arith) (ap not c.if-not-found.false)
+
+pub loop-i-init : goal.loop-i-init
+loop-i-init c = (omega arith, λ least totals m. seen_none)

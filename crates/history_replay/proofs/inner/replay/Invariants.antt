@@ -1,0 +1,21 @@
+-- `history_replay::inner::replay` meets its contract. A badly coded list changes nothing (`bad-encoding`). Invariant of the loop: lengths are kept, and
+-- `Replaying`: the answers so far, then the numbers of the calls from k on, are those of all calls, and the calls from k on end where all end. It holds at
+-- first (`replaying-start`), gives what call k asks (`replaying-call`), is kept (`replaying-step`), at the end it is the replay (`replaying-done`). Measure:
+-- answers − k.
+use Prim.Native.Nat.{◌-◌}
+use mathlib.Core.Path.{◌≡◌, refl, ◌∙◌}
+use native.Mathlib.Omega.{arith}
+use lib.ListN.{length}
+use borrow.Author.Rules.{rules}
+use Rattle.history_replay.specs.Replay.{site}
+use Rattle.history_replay.proofs.Replaying.{Replaying, bad-encoding, replaying-start, replaying-call, replaying-step, replaying-done}
+use Rattle.history_replay.proofs.inner.replay.Given as goal
+
+abbrev pub invariant-loop-k : goal.invariant-loop-k
+invariant-loop-k l =
+    (length l.stay ≡ length l.initial.stay) × (length l.moved ≡ length l.initial.moved) × (length l.move_half_ticks ≡ length l.initial.move_half_ticks)
+    × Replaying l.config l.calls (site l.initial.next l.initial.stay l.initial.moved l.initial.move_half_ticks l.initial.room) l.initial.answers l.k (site l.next l.stay l.moved l.move_half_ticks l.room) l.answers
+
+abbrev pub decreases-loop-k : goal.decreases-loop-k
+decreases-loop-k l =
+    length l.initial.answers - l.k

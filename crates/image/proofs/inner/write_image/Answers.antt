@@ -1,0 +1,14 @@
+-- `image::inner::write_image` meets its contract: the header and the three tables are stored one after another, each where the one before it ends. The length
+-- that the contract requires gives each table its place, as no store changes the length (`stay-inside`, `moved_inside`, `totals-inside`); the four stores
+-- together fill the output with the image (`image-written`). No loop.
+use native.Mathlib.Omega.{arith}
+use borrow.Author.Rules.{rules}
+use Rattle.calibrator.proofs.Lengths.{lengths-known}
+use Rattle.image_layout.specs.Layout.{newest}
+use Rattle.image.proofs.Written.{Writable, stay-inside, moved_inside, totals-inside, image-written}
+use Rattle.image.proofs.inner.write_image.Goals as goal
+
+pub returns : goal.returns
+returns c =
+    image-written (let writable_fact : let a = c.args in Writable newest a.config a.stay.now a.moved.now a.move_half_ticks.now a.out.now = record { sizes = lengths-known _ _ _ _ c.requires.1; long = c.requires.2 } in writable_fact) (omega arith) c.args.rec c.cell_count-cells.ensures.0 c.header_words-h.ensures
+    c.put_table.ensures c.put_table-2.ensures c.put_table-3.ensures c.put_totals.ensures
