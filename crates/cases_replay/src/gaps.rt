@@ -4,7 +4,6 @@ use crate::empty;
 use calibrator::Record;
 use config::MicroPriceConfig;
 use image::Restored;
-use libc::STDOUT_FILENO;
 use quotes::TopOfBook;
 
 fn quote_at(timestamp_ms: u64) -> TopOfBook {
@@ -17,18 +16,17 @@ fn quote_at(timestamp_ms: u64) -> TopOfBook {
     }
 }
 
-fn show_word(name: &[u8], w: u64) {
-    io::write_all(STDOUT_FILENO, name);
-    io::print_decimal(STDOUT_FILENO, w);
+fn show_word(rt: &impl Print, name: &str, w: u64) {
+    let _ = print!(rt; "{name}{w}");
 }
 
-fn show_line(config: MicroPriceConfig, pause: u64, rec: Record) {
+fn show_line(rt: &impl Print, config: MicroPriceConfig, pause: u64, rec: Record) {
     let counters = rec.counters;
-    show_word(b"gap ", config.max_quote_gap_ms);
-    show_word(b" pause ", pause);
-    show_word(b" pairs ", counters.pairs);
-    show_word(b" gap skips ", counters.skipped_gap_pairs);
-    io::write_all(STDOUT_FILENO, b"\n");
+    show_word(rt, "gap ", config.max_quote_gap_ms);
+    show_word(rt, " pause ", pause);
+    show_word(rt, " pairs ", counters.pairs);
+    show_word(rt, " gap skips ", counters.skipped_gap_pairs);
+    let _ = rt.println("");
 }
 
 // The one configuration of this program that names no gap.
@@ -56,7 +54,7 @@ fn after_first(
 }
 
 // The pause under the default gap.
-fn show_default(pause: u64) {
+fn show_default(rt: &impl Print, pause: u64) {
     let mut stay = [0; 36];
     let mut moved = [0; 36];
     let mut move_half_ticks = [0; 6];
@@ -70,7 +68,7 @@ fn show_default(pause: u64) {
         config,
         quote_at(pause),
     );
-    show_line(config, pause, second.next);
+    show_line(rt, config, pause, second.next);
 }
 
 // The image of a calibrator under a gap of 60,000, after its first quote.
@@ -86,7 +84,7 @@ fn saved() -> [u8; 784] {
 }
 
 // The pause under the gap that restore answers, of that image with this gap in its word 5.
-fn show_carried(gap: u64, pause: u64) {
+fn show_carried(rt: &impl Print, gap: u64, pause: u64) {
     let mut stay = [0; 36];
     let mut moved = [0; 36];
     let mut move_half_ticks = [0; 6];
@@ -104,13 +102,13 @@ fn show_carried(gap: u64, pause: u64) {
             config,
             quote_at(pause),
         );
-        show_line(config, pause, second.next);
+        show_line(rt, config, pause, second.next);
     }
 }
 
-pub fn show_all() {
-    show_default(5_000);
-    show_default(5_001);
-    show_carried(60_000, 6_000);
-    show_carried(5_000, 6_000);
+pub fn show_all(rt: &impl Print) {
+    show_default(rt, 5_000);
+    show_default(rt, 5_001);
+    show_carried(rt, 60_000, 6_000);
+    show_carried(rt, 5_000, 6_000);
 }

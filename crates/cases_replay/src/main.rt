@@ -8,7 +8,6 @@ ghost use Rattle.cases_replay.specs.Journal as Journal;
 use calibrator::{Previous, Record};
 use config::MicroPriceConfig;
 use history_replay::Replayed;
-use libc::STDOUT_FILENO;
 
 mod gaps;
 
@@ -56,27 +55,26 @@ fn other_image() -> [u64; 41] {
 }
 
 // Numbers, each on a line.
-fn show(s: &[u64]) {
+fn show(rt: &impl Print, s: &[u64]) {
     let mut i = 0;
     while i < s.len() {
-        io::print_decimal(STDOUT_FILENO, s[i]);
-        io::write_all(STDOUT_FILENO, b"\n");
+        let _ = rt.println(s[i]);
         i += 1;
     }
 }
 
-fn show_end(r: Replayed) {
+fn show_end(rt: &impl Print, r: Replayed) {
     match r {
         Replayed::Done => {
-            io::write_all(STDOUT_FILENO, b"done\n");
+            let _ = rt.println("done");
         }
         Replayed::BadEncoding => {
-            io::write_all(STDOUT_FILENO, b"bad encoding\n");
+            let _ = rt.println("bad encoding");
         }
     }
 }
 
-fn main() {
+fn main(rt: HostRuntime) {
     let mut stay = [0; 9];
     let mut moved = [0; 9];
     let mut move_half_ticks = [0; 3];
@@ -104,10 +102,10 @@ fn main() {
         &mut answers,
     );
     let end = done.answer;
-    show_end(end);
-    show(&answers);
+    show_end(&rt, end);
+    show(&rt, &answers);
     image_words::get_table(&room, 0, &mut words);
-    show(&words);
+    show(&rt, &words);
     let next = done.next;
     let odd = [3; 6];
     let mut one = [7; 1];
@@ -122,7 +120,7 @@ fn main() {
         &mut one,
     );
     let answer = bad.answer;
-    show_end(answer);
-    show(&one);
-    gaps::show_all();
+    show_end(&rt, answer);
+    show(&rt, &one);
+    gaps::show_all(&rt);
 }

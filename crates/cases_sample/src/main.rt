@@ -5,13 +5,12 @@
 ghost use Rattle.std.specs.Prelude.{◌<◌, ◌≤◌, length};
 
 use calibrator::Record;
-use cases_shared::reading::{config_of, count_at, word_at};
+use cases_shared::reading::{config_of, count_at, read_full, word_at};
 use cases_shared::showing::{show, show_after, show_before};
 use cases_shared::tables::record_of;
 use config::MicroPriceConfig;
 use evening::Evening;
 use image::{RestoreDone, Restored};
-use libc::{STDIN_FILENO, STDOUT_FILENO};
 use recording::Window;
 use refusals::Check;
 
@@ -20,29 +19,29 @@ mod models;
 // ---- case 9
 
 // The words of the configuration that is made from tick, buckets and spread states alone.
-fn show_made(words: &[u64]) {
+fn show_made(rt: &impl Print, words: &[u64]) {
     let made = MicroPriceConfig::new(word_at(words, 1), word_at(words, 2), word_at(words, 3));
     let mut held = [0; config::inner::CONFIG_WORDS];
     config::inner::put_config(&mut held, made);
-    show(held[0]);
-    cases_shared::showing::show_all_after(&held[1..]);
+    show(rt, held[0]);
+    cases_shared::showing::show_all_after(rt, &held[1..]);
 }
 
 // ---- cases 5, 6 and 7
 
-fn run_models(words: &[u64]) {
+fn run_models(rt: &impl Print, words: &[u64]) {
     let mut model = [0; 105];
     let rows = (word_at(words, 6) % 16) as usize;
     models::put_model(words, rows, &mut model);
     let config = config_of(words);
     if word_at(words, 0) == 5 {
-        models::show_check(config, &model[..7 * rows]);
+        models::show_check(rt, config, &model[..7 * rows]);
     } else {
-        models::show_signals(config, &model[..7 * rows], words, 7 + 10 * rows);
+        models::show_signals(rt, config, &model[..7 * rows], words, 7 + 10 * rows);
     }
 }
 
-fn run_window(words: &[u64]) {
+fn run_window(rt: &impl Print, words: &[u64]) {
     let past = 4 + 5 * count_at(words, 3);
     if past <= words.len() {
         let start = word_at(words, 1);
@@ -50,11 +49,11 @@ fn run_window(words: &[u64]) {
         let found = recording::window_of(&words[4..past], start, end);
         match found {
             Window::Part(ends) => {
-                show(0);
-                show_after(ends.first as u64);
-                show_after(ends.past as u64);
+                show(rt, 0);
+                show_after(rt, ends.first as u64);
+                show_after(rt, ends.past as u64);
             }
-            Window::Refused(refusal) => show(refusals::number_of(refusal)),
+            Window::Refused(refusal) => show(rt, refusals::number_of(refusal)),
         }
     }
 }
@@ -62,14 +61,15 @@ fn run_window(words: &[u64]) {
 // ---- cases 2, 3, 4 and 8
 
 // A record, with a space after each word.
-fn show_record(rec: Record) {
+fn show_record(rt: &impl Print, rec: Record) {
     let mut ten = [0; 10];
     abi_encoding::put_record(&mut ten, rec);
-    cases_shared::showing::show_all_before(&ten);
+    cases_shared::showing::show_all_before(rt, &ten);
 }
 
 // Gives the quotes whose number is word `at` to the calibrator, and shows each answer and the calibrator that is left.
 fn show_quotes(
+    rt: &impl Print,
     rec: Record,
     n: usize,
     stay: &mut [u64],
@@ -89,14 +89,15 @@ fn show_quotes(
         let done = calibrator::inner::observe(next, stay, moved, move_half_ticks, config, quote);
         let answer = done.answer;
         next = done.next;
-        show_before(refusals::check_number(answer));
+        show_before(rt, refusals::check_number(answer));
         i += 1;
     }
-    show_record(next);
-    cases_shared::showing::show_entries(n, stay, moved, move_half_ticks);
+    show_record(rt, next);
+    cases_shared::showing::show_entries(rt, n, stay, moved, move_half_ticks);
 }
 
 fn run_new(
+    rt: &impl Print,
     words: &[u64],
     n: usize,
     stay: &mut [u64],
@@ -105,7 +106,17 @@ fn run_new(
 ) {
     let config = config_of(words);
     let made = calibrator::inner::new(record_of(0), stay, moved, move_half_ticks, config);
-    show_quotes(made.next, n, stay, moved, move_half_ticks, config, words, 6);
+    show_quotes(
+        rt,
+        made.next,
+        n,
+        stay,
+        moved,
+        move_half_ticks,
+        config,
+        words,
+        6,
+    );
 }
 
 // Restores an image into emptied tables.
@@ -122,6 +133,7 @@ fn restore(
 
 // Restores an image, and gives the calibrator the quotes of the case.
 fn restore_and_quote(
+    rt: &impl Print,
     words: &[u64],
     n: usize,
     bytes: &[u8],
@@ -133,9 +145,10 @@ fn restore_and_quote(
     let answer = done.answer;
     match answer {
         Restored::Config(config) => {
-            show_before(0);
+            show_before(rt, 0);
             let at = 17 + 4 * count_at(words, 16);
             show_quotes(
+                rt,
                 done.next,
                 n,
                 stay,
@@ -146,12 +159,13 @@ fn restore_and_quote(
                 at,
             );
         }
-        Restored::Refused(refusal) => show(refusals::number_of(refusal)),
+        Restored::Refused(refusal) => show(rt, refusals::number_of(refusal)),
     }
 }
 
 // Fills the tables, writes their image, and restores it.
 fn run_image(
+    rt: &impl Print,
     words: &[u64],
     n: usize,
     bytes: &mut [u8],
@@ -163,11 +177,12 @@ fn run_image(
 {
     cases_shared::tables::fill(words, 16, n, stay, moved, move_half_ticks);
     cases_shared::tables::put_image(words, n, stay, moved, move_half_ticks, bytes);
-    restore_and_quote(words, n, bytes, stay, moved, move_half_ticks);
+    restore_and_quote(rt, words, n, bytes, stay, moved, move_half_ticks);
 }
 
 // There is room for an image of 27 states.
 fn run_restore(
+    rt: &impl Print,
     words: &[u64],
     n: usize,
     stay: &mut [u64],
@@ -179,19 +194,28 @@ fn run_restore(
     let mut image = [0; 12040];
     let size = cases_shared::tables::image_length(n);
     if size <= 12040 {
-        run_image(words, n, &mut image[..size], stay, moved, move_half_ticks);
+        run_image(
+            rt,
+            words,
+            n,
+            &mut image[..size],
+            stay,
+            moved,
+            move_half_ticks,
+        );
     }
 }
 
 // The table of a fit that is not refused.
-fn show_table(answer: Check, model: &[u64]) {
+fn show_table(rt: &impl Print, answer: Check, model: &[u64]) {
     match answer {
-        Check::Fine => cases_shared::showing::show_all_after(model),
+        Check::Fine => cases_shared::showing::show_all_after(rt, model),
         Check::Refused(_) => {}
     }
 }
 
 fn run_fit(
+    rt: &impl Print,
     words: &[u64],
     n: usize,
     stay: &mut [u64],
@@ -206,12 +230,13 @@ fn run_fit(
     let rec = record_of(word_at(words, 6));
     let config = config_of(words);
     let answer = fit::inner::fit_counts(rec, stay, moved, move_half_ticks, config, scratch, model);
-    show(refusals::check_number(answer));
-    show_table(answer, model);
+    show(rt, refusals::check_number(answer));
+    show_table(rt, answer, model);
 }
 
 // The answer of an evening, and the calibrator and the table that it leaves.
 fn show_evening(
+    rt: &impl Print,
     answer: Evening,
     rec: Record,
     n: usize,
@@ -223,17 +248,18 @@ fn show_evening(
     match answer {
         Evening::Fitted(counted) => {
             let fitted = counted.answer;
-            show_before(refusals::check_number(fitted));
-            show_before(counted.invalid);
-            show_record(rec);
-            cases_shared::showing::show_entries(n, stay, moved, move_half_ticks);
-            show_table(fitted, model);
+            show_before(rt, refusals::check_number(fitted));
+            show_before(rt, counted.invalid);
+            show_record(rt, rec);
+            cases_shared::showing::show_entries(rt, n, stay, moved, move_half_ticks);
+            show_table(rt, fitted, model);
         }
-        Evening::Refused(refusal) => show(refusals::number_of(refusal)),
+        Evening::Refused(refusal) => show(rt, refusals::number_of(refusal)),
     }
 }
 
 fn run_evening(
+    rt: &impl Print,
     words: &[u64],
     n: usize,
     stay: &mut [u64],
@@ -257,12 +283,22 @@ fn run_evening(
             model,
         );
         let answer = done.answer;
-        show_evening(answer, done.next, n, stay, moved, move_half_ticks, model);
+        show_evening(
+            rt,
+            answer,
+            done.next,
+            n,
+            stay,
+            moved,
+            move_half_ticks,
+            model,
+        );
     }
 }
 
 // Runs a case on zero tables of n states.
 fn run_on(
+    rt: &impl Print,
     words: &[u64],
     n: usize,
     stay: &mut [u64],
@@ -275,18 +311,18 @@ fn run_on(
 {
     let kind = word_at(words, 0);
     if kind == 2 {
-        run_new(words, n, stay, moved, move_half_ticks);
+        run_new(rt, words, n, stay, moved, move_half_ticks);
     } else if kind == 3 {
-        run_restore(words, n, stay, moved, move_half_ticks);
+        run_restore(rt, words, n, stay, moved, move_half_ticks);
     } else if kind == 4 {
-        run_fit(words, n, stay, moved, move_half_ticks, scratch, model);
+        run_fit(rt, words, n, stay, moved, move_half_ticks, scratch, model);
     } else {
-        run_evening(words, n, stay, moved, move_half_ticks, scratch, model);
+        run_evening(rt, words, n, stay, moved, move_half_ticks, scratch, model);
     }
 }
 
 // There is room for 255 states.
-fn run_tables(words: &[u64]) {
+fn run_tables(rt: &impl Print, words: &[u64]) {
     let mut stay = [0; 65025];
     let mut moved = [0; 65025];
     let mut move_half_ticks = [0; 255];
@@ -296,6 +332,7 @@ fn run_tables(words: &[u64]) {
     let cells = cases_shared::tables::product(n, n);
     let floats = cases_shared::tables::product(n, 2 * n + 10);
     run_on(
+        rt,
         words,
         n,
         &mut stay[..cells],
@@ -308,42 +345,42 @@ fn run_tables(words: &[u64]) {
 
 // ---- all cases
 
-fn run_case(words: &[u64]) {
+fn run_case(rt: &impl Print, words: &[u64]) {
     let kind = word_at(words, 0);
     if kind == 1 {
-        show(refusals::check_number(config_of(words).validate()));
+        show(rt, refusals::check_number(config_of(words).validate()));
     } else if (kind == 5) | (kind == 6) {
-        run_models(words);
+        run_models(rt, words);
     } else if kind == 7 {
-        run_window(words);
+        run_window(rt, words);
     } else if kind == 9 {
-        show_made(words);
+        show_made(rt, words);
     } else {
-        run_tables(words);
+        run_tables(rt, words);
     }
-    io::write_all(STDOUT_FILENO, b"\n");
+    let _ = rt.println("");
 }
 
 // Runs the case whose line begins at `at`; there is room for the longest. Answers where the next line begins.
-fn run(text: &[u8], at: usize) -> usize
+fn run(rt: &impl Print, text: &[u8], at: usize) -> usize
     ensures { at < length text.now → at < result }
 {
     let mut words = [0; 2200];
     let next = cases_shared::reading::read_line(text, at, &mut words);
-    run_case(&words);
+    run_case(rt, &words);
     next
 }
 
-fn run_all(text: &[u8]) {
+fn run_all(rt: &impl Print, text: &[u8]) {
     let mut at: usize = 0;
     while at < text.len() {
-        at = run(text, at);
+        at = run(rt, text, at);
     }
 }
 
 // There is room for all cases.
-fn main() {
+fn main(rt: HostRuntime) {
     let mut input = [0; 144698];
-    let got = io::read_full(STDIN_FILENO, &mut input);
-    run_all(&input[..got]);
+    let got = read_full(&mut rt.stdin(), &mut input);
+    run_all(&rt, &input[..got]);
 }

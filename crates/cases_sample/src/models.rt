@@ -47,42 +47,48 @@ pub fn put_model(words: &[u64], rows: usize, model: &mut [u64])
     }
 }
 
-pub fn show_check(config: MicroPriceConfig, model: &[u64]) {
+pub fn show_check(rt: &impl Print, config: MicroPriceConfig, model: &[u64]) {
     let checked = model_check::check_model(config, model);
-    show(refusals::check_number(checked));
+    show(rt, refusals::check_number(checked));
     if let Check::Refused(refusal) = checked {
         if let Refusal::ModelRow(row) = refusal {
-            show_after(row as u64);
+            show_after(rt, row as u64);
         }
     }
 }
 
-fn show_signal(answer: Signalled) {
+fn show_signal(rt: &impl Print, answer: Signalled) {
     match answer {
         Signalled::Sent(s) => {
             let source = s.source;
-            show(0);
-            show_after(s.timestamp_ms);
-            show_after(s.mid_sum);
-            show_after(floats::to_bits(s.adjustment));
-            show_after(model_signals::inner::source_number(source));
+            show(rt, 0);
+            show_after(rt, s.timestamp_ms);
+            show_after(rt, s.mid_sum);
+            show_after(rt, floats::to_bits(s.adjustment));
+            show_after(rt, model_signals::inner::source_number(source));
         }
-        Signalled::Refused(refusal) => show(refusals::number_of(refusal)),
+        Signalled::Refused(refusal) => show(rt, refusals::number_of(refusal)),
     }
 }
 
 // The signals of the quotes whose number is word `at`, with a space between two.
-pub fn show_signals(config: MicroPriceConfig, model: &[u64], words: &[u64], at: usize)
+pub fn show_signals(
+    rt: &impl Print,
+    config: MicroPriceConfig,
+    model: &[u64],
+    words: &[u64],
+    at: usize,
+)
     requires { at ≤ 4096 }
 {
     let count = cases_shared::reading::count_at(words, at);
     let mut i: usize = 0;
     while i < count {
         if i != 0 {
-            io::write_all(libc::STDOUT_FILENO, b" ");
+            let _ = rt.print(" ");
         }
         let quote = cases_shared::reading::quote_at(words, at + 1 + 5 * i);
-        show_signal(model_signals::signal(config, model, quote));
+        show_signal(rt, model_signals::signal(config, model, quote));
         i += 1;
     }
 }

@@ -3,7 +3,7 @@
 #![tactic(auto)]
 
 ghost use Rattle.std.specs.Prelude.{◌≡◌, length};
-ghost use Rattle.evening_main.specs.Inner.{InputWithin};
+ghost use Rattle.evening_main.specs.Inner.{InputWithin, ReadOnce, ReadAll};
 
 use std::io::Read;
 
@@ -29,7 +29,8 @@ fn output_buffer() -> [u8; 4350]
 
 // One read; no bytes are the end of the input.
 fn read_some<R: Read>(reader: &mut R, buffer: &mut [u8]) -> Input
-    ensures { InputWithin (length buffer.old) result }
+    ensures within { InputWithin (length buffer.old) result }
+    ensures bytes { ReadOnce (R.remaining reader.old) (R.remaining reader.new) buffer.new result }
 {
     match reader.read(buffer) {
         Ok(n) => Input::Bytes(n),
@@ -39,7 +40,8 @@ fn read_some<R: Read>(reader: &mut R, buffer: &mut [u8]) -> Input
 
 // Reads until the input ends, the buffer is full or a read fails.
 fn read_input<R: Read>(reader: &mut R, buffer: &mut [u8]) -> Input
-    ensures { InputWithin (length buffer.old) result }
+    ensures within { InputWithin (length buffer.old) result }
+    ensures bytes { ReadAll (R.remaining reader.old) (R.remaining reader.new) buffer.new result }
 {
     let mut at: usize = 0;
     while at < buffer.len() {
