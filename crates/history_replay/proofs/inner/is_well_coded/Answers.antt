@@ -1,12 +1,6 @@
-use Prim.Native.Nat.{◌*◌, ◌-◌}
-use mathlib.Core.Path.{◌≡◌, ap}
+use mathlib.Core.Path.{ap}
 use mathlib.Core.Bool.{not}
-use native.Mathlib.Omega.{arith}
-use lib.ListN.{length}
-use Rattle.basics.specs.Lists.{all_from}
-use Rattle.count_check.proofs.Walks.{whole}
-use Rattle.history_replay.specs.Replay.{is_call}
-use Rattle.history_replay.proofs.Coding.{coded-ragged, coded-count, coded-length, coded-stop, coded-step, coded-end}
+use Rattle.history_replay.proofs.Coding.{coded-step}
 use Rattle.history_replay.proofs.inner.is_well_coded.Goals as goal
 
 pub loop-k-preserved : goal.loop-k-preserved

@@ -1,10 +1,5 @@
-use Prim.Native.Nat.{◌-◌}
-use mathlib.Core.Path.{◌≡◌, refl, ◌∙◌}
 use native.Mathlib.Omega.{arith}
-use lib.ListN.{length}
-use borrow.Author.Rules.{rules}
-use Rattle.history_replay.specs.Replay.{site}
-use Rattle.history_replay.proofs.Replaying.{Replaying, bad-encoding, replaying-start, replaying-call, replaying-step, replaying-done}
+use Rattle.history_replay.proofs.Replaying.{replaying-call, replaying-step, replaying-done}
 use Rattle.history_replay.proofs.inner.replay.Goals as goal
 
 pub replay_call-done-requires : goal.replay_call-done-requires
