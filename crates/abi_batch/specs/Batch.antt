@@ -11,7 +11,6 @@ use Rattle.history_replay.specs.declared.Replayed.{Replayed}
 use Rattle.history_replay.specs.declared.Replayed.TheVariants.{Done, BadEncoding}
 use Rattle.evening.specs.Evening.{EveningOutcome, calibrated}
 use Rattle.evening.specs.declared.Evening.{Evening}
-use Rattle.evening.specs.declared.Evening.TheVariants as Evening
 use Rattle.config.specs.Configuration.{config_of}
 use Rattle.abi_encoding.specs.Encoding.{record_words_of, record_of, right_words, encoded, bad_encoding, Lent, lent, lent_as}
 

@@ -163,7 +163,8 @@ fn count_pair(
     pair: Pair,
 ) -> Done
     requires { Valid config × Countable config pair × (wrong_lengths (states config) (length stay.old) (length moved.old) (length move_half_ticks.old) ≡ false) }
-    ensures { leaves result.answer result.next stay.new moved.new move_half_ticks.new ≡ counted_as config (memory rec stay.old moved.old move_half_ticks.old) quote (event_from (Neighbours.Counted pair)) }
+    ensures { leaves result.answer result.next stay.new moved.new move_half_ticks.new
+        ≡ counted_as config (memory rec stay.old moved.old move_half_ticks.old) quote (event_from (Neighbours.Counted pair)) }
 {
     let n = config::inner::state_count(config);
     let e = entry_of(pair);
@@ -190,7 +191,8 @@ fn next_quote(
 ) -> Done
     requires { Valid config × Accepted config last × Accepted config quote × (last.timestamp_ms ≤ quote.timestamp_ms)
         × (wrong_lengths (states config) (length stay.old) (length moved.old) (length move_half_ticks.old) ≡ false) }
-    ensures { leaves result.answer result.next stay.new moved.new move_half_ticks.new ≡ counted_as config (memory rec stay.old moved.old move_half_ticks.old) quote (event_from (neighbours_of config last quote)) }
+    ensures { leaves result.answer result.next stay.new moved.new move_half_ticks.new
+        ≡ counted_as config (memory rec stay.old moved.old move_half_ticks.old) quote (event_from (neighbours_of config last quote)) }
 {
     let found = quotes::inner::neighbours(config, last, quote);
     match found {

@@ -11,7 +11,6 @@ use lib.Ieee.{Float, eq}
 use Rattle.floats.specs.Floats.{pos_zero}
 use Rattle.refusals.specs.Refusals.{number_of, refusal, refuse_if, first_of, check_number}
 use Rattle.refusals.specs.declared.Check.{Check}
-use Rattle.refusals.specs.declared.Check.TheVariants as Check
 use Rattle.refusals.specs.declared.Refusal.{Refusal}
 use Rattle.refusals.specs.declared.Refusal.TheVariants.{ModelRow}
 use Rattle.config.specs.Configuration.{states, valid}

@@ -13,7 +13,6 @@ use Rattle.basics.specs.Lists.{bit, tab}
 use Rattle.image_words.specs.Words.{AllWords}
 use Rattle.refusals.specs.Refusals.{number_of, refuse_if, first_of}
 use Rattle.refusals.specs.declared.Check.{Check}
-use Rattle.refusals.specs.declared.Check.TheVariants as Check
 use Rattle.refusals.specs.declared.Refusal.{Refusal}
 use Rattle.refusals.specs.declared.Refusal.TheVariants.{Configuration, OverDomain, CountLimit, SliceLength, RecordingUnsorted, WindowBackward}
 use Rattle.refusals.proofs.Refusals.{if-fine, first_fine}

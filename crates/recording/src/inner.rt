@@ -122,7 +122,8 @@ pub fn observe_recording(
     config: MicroPriceConfig,
     recording: &[u64],
 ) -> Recorded
-    ensures { recorded_as result.answer result.invalid (memory result.next stay.new moved.new move_half_ticks.new) ≡ recorded_of config recording.now (memory rec stay.old moved.old move_half_ticks.old) }
+    ensures { recorded_as result.answer result.invalid (memory result.next stay.new moved.new move_half_ticks.new)
+        ≡ recorded_of config recording.now (memory rec stay.old moved.old move_half_ticks.old) }
 {
     if recording.len() % 5 != 0 {
         return Recorded {

@@ -1,12 +1,10 @@
 -- `abi_batch::micro_price_replay` meets its contract. The ways out: words that are not encoded are answered 100 and nothing is written (`replay-refused`);
 -- encoded words hold the record and the configuration, and what the replay promises of them it promises of the words: of a bad encoding with no word written
--- (`replay-uncoded`), else with the record written back (`replay-ran`). The calls after the test ask of the words only what the test says (`encoded-by`). No loop.
-use mathlib.Core.Path.{sym, ◌∙◌}
-use borrow.Author.Tests.{not-true, not-false}
-use Rattle.abi_encoding.proofs.Laws.{Encoded, encoded-by}
+-- (`replay-uncoded`), else with the record written back (`replay-ran`). The calls after the test ask of the words only what the test says (`encoded-by`).
+-- No loop.
+use Rattle.abi_encoding.proofs.Laws.{encoded-by}
 use Rattle.history_replay.specs.Replay.{site, replay}
-use Rattle.abi_batch.proofs.BatchWords.{replay-refused, replay-uncoded, replay-ran}
-use borrow.Author.Rules.{rules}
+use Rattle.abi_batch.proofs.BatchWords.{replay-ran}
 use Rattle.abi_batch.proofs.micro_price_replay.Goals as goal
 
 pub record_of-before-requires : goal.record_of-before-requires

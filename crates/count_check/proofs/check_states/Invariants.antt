@@ -19,7 +19,8 @@ state n mirrors imaged stay moved totals sb mb tb =
 
 abbrev pub invariant-loop-i : goal.invariant-loop-i
 invariant-loop-i l =
-    first_from (state l.n l.mirrors l.imaged l.stay l.moved l.move_half_ticks l.sb l.mb l.tb) 0 l.n ≡ first_from (state l.n l.mirrors l.imaged l.stay l.moved l.move_half_ticks l.sb l.mb l.tb) l.i (l.n - l.i)
+    let refused : ℕ → Check = state l.n l.mirrors l.imaged l.stay l.moved l.move_half_ticks l.sb l.mb l.tb in
+    first_from refused 0 l.n ≡ first_from refused l.i (l.n - l.i)
 
 abbrev pub decreases-loop-i : goal.decreases-loop-i
 decreases-loop-i l = l.n - l.i

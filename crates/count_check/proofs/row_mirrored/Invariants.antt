@@ -18,7 +18,8 @@ cell n mirrors stay moved sb mb imaged i =
 
 abbrev pub invariant-loop-j : goal.invariant-loop-j
 invariant-loop-j l =
-    all_from (cell l.n l.mirrors l.stay l.moved l.sb l.mb l.imaged l.i) 0 l.n ≡ all_from (cell l.n l.mirrors l.stay l.moved l.sb l.mb l.imaged l.i) l.j (l.n - l.j)
+    let same : ℕ → Bool = cell l.n l.mirrors l.stay l.moved l.sb l.mb l.imaged l.i in
+    all_from same 0 l.n ≡ all_from same l.j (l.n - l.j)
 
 abbrev pub decreases-loop-j : goal.decreases-loop-j
 decreases-loop-j l = l.n - l.j

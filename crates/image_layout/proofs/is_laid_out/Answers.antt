@@ -17,5 +17,6 @@ returns c =
     let b = a.b.now in
     let p = c.requires in
     let h = c.header_words-h.result in
+    let long : length h ≡ newest = ap length c.header_words-h.ensures ∙ length-header newest (omega arith) _ _ _ in
     laid-out-is b a.config a.rec h c.same_words-same.result c.image_length.result p.2 p.3 c.header_words-h.ensures
-    (c.same_words-same.ensures ∙ ap (λ (n : ℕ). same_words (header_in n b) h) (let long_fact : length c.header_words-h.result ≡ newest = ap length c.header_words-h.ensures ∙ length-header newest (omega arith) _ _ _ in long_fact)) c.image_length.ensures
+    (c.same_words-same.ensures ∙ ap (λ (n : ℕ). same_words (header_in n b) h) long) c.image_length.ensures

@@ -11,8 +11,10 @@ use Rattle.history_replay.proofs.inner.replay.Given as goal
 
 abbrev pub invariant-loop-k : goal.invariant-loop-k
 invariant-loop-k l =
-    (length l.stay ≡ length l.initial.stay) × (length l.moved ≡ length l.initial.moved) × (length l.move_half_ticks ≡ length l.initial.move_half_ticks)
-    × Replaying l.config l.calls (site l.initial.next l.initial.stay l.initial.moved l.initial.move_half_ticks l.initial.room) l.initial.answers l.k (site l.next l.stay l.moved l.move_half_ticks l.room) l.answers
+    let o = l.initial in
+    (length l.stay ≡ length o.stay) × (length l.moved ≡ length o.moved) × (length l.move_half_ticks ≡ length o.move_half_ticks)
+    × Replaying l.config l.calls (site o.next o.stay o.moved o.move_half_ticks o.room) o.answers
+        l.k (site l.next l.stay l.moved l.move_half_ticks l.room) l.answers
 
 abbrev pub decreases-loop-k : goal.decreases-loop-k
 decreases-loop-k l =

@@ -1,6 +1,7 @@
 -- `history_replay::inner::replay_call` meets its contract: call k is made by its kind, and each way out is a step of the list: a quote (`step-quote`), a save
 -- (`step-save`), a restore (`step-restore`). No loop. The reads of the call's words lie in the list by the first part of the `requires`; that the bytes of a
--- save or a restore lie in the room, so that start + length fits and the part can be lent, is `call_lies`, from the second part and the test that it is no quote.
+-- save or a restore lie in the room, so that start + length fits and the part can be lent, is `call_lies`, from the second part and the
+-- test that it is no quote.
 use lib.ListN.{length}
 use Rattle.history_replay.specs.Replay.{site}
 use Rattle.history_replay.proofs.Coding.{call_lies}

@@ -19,14 +19,16 @@ read_tables-requires c =
     let a = c.args in
     let b = a.image.now in
     let t = tables a.stay.now a.moved.now a.move_half_ticks.now in
-    subst (λ (form : ℕ). Readable form b (length t.stay) (length t.moved) (length t.totals)) (restore-newest b t (let unrefused_fact : let a = c.args in restore_refusal a.image.now (tables a.stay.now a.moved.now a.move_half_ticks.now) ≡ Fine = sym c.check_restore-k.ensures ∙ c.in_default.is in unrefused_fact))
-    (restore-readable b t (let unrefused_fact : let a = c.args in restore_refusal a.image.now (tables a.stay.now a.moved.now a.move_half_ticks.now) ≡ Fine = sym c.check_restore-k.ensures ∙ c.in_default.is in unrefused_fact))
+    let unrefused : restore_refusal b t ≡ Fine = sym c.check_restore-k.ensures ∙ c.in_default.is in
+    subst (λ (form : ℕ). Readable form b (length t.stay) (length t.moved) (length t.totals)) (restore-newest b t unrefused)
+    (restore-readable b t unrefused)
 
 pub returns : goal.returns
 returns c =
     let a = c.args in
     let b = a.image.now in
-    let form-is = restore-newest b (tables a.stay.now a.moved.now a.move_half_ticks.now) (let unrefused_fact : let a = c.args in restore_refusal a.image.now (tables a.stay.now a.moved.now a.move_half_ticks.now) ≡ Fine = sym c.check_restore-k.ensures ∙ c.in_default.is in unrefused_fact) in
-    way-restored b (memory a.rec a.stay.now a.moved.now a.move_half_ticks.now) (let unrefused_fact : let a = c.args in restore_refusal a.image.now (tables a.stay.now a.moved.now a.move_half_ticks.now) ≡ Fine = sym c.check_restore-k.ensures ∙ c.in_default.is in unrefused_fact)
+    let t = tables a.stay.now a.moved.now a.move_half_ticks.now in
+    let unrefused : restore_refusal b t ≡ Fine = sym c.check_restore-k.ensures ∙ c.in_default.is in
+    way-restored b (memory a.rec a.stay.now a.moved.now a.move_half_ticks.now) unrefused
     c.config_in-config.ensures c.record_in-next.ensures
-    (c.read_tables.ensures ∙ ap (λ (form : ℕ). (memory_in form b).counts.tables) (sym form-is))
+    (c.read_tables.ensures ∙ ap (λ (form : ℕ). (memory_in form b).counts.tables) (sym (restore-newest b t unrefused)))

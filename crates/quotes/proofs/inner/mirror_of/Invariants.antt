@@ -1,3 +1,5 @@
+-- `quotes::inner::mirror_of` meets its contract: the walk over the spread levels ends at the state's own, where `mirror_in` gives the mirror. Invariant of the
+-- loop: a level begins at first (`begins-next`), which is not past the state; measure: the state less first. At the end the next level begins past the state.
 use Prim.Native.Nat.{◌-◌, ◌≤◌}
 use mathlib.Core.Path.{◌≡◌}
 use Rattle.quotes.specs.States.{bucket_in}

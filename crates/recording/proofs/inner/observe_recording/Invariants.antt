@@ -9,8 +9,9 @@ use Rattle.recording.proofs.inner.observe_recording.Given as goal
 
 abbrev pub invariant-loop-i : goal.invariant-loop-i
 invariant-loop-i l =
-    Observing l.config l.recording (memory l.initial.next l.initial.stay l.initial.moved l.initial.move_half_ticks) (memory l.next l.stay l.moved l.move_half_ticks) l.invalid l.i
+    let o = l.initial in
+    Observing l.config l.recording (memory o.next o.stay o.moved o.move_half_ticks)
+    (memory l.next l.stay l.moved l.move_half_ticks) l.invalid l.i
 
 abbrev pub decreases-loop-i : goal.decreases-loop-i
-decreases-loop-i l =
-    l.n - l.i
+decreases-loop-i l = l.n - l.i
