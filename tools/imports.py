@@ -2,17 +2,16 @@
 """imports.py [--dry] [FILE ..]: drops the names that a file imports and does not use, and joins imports of one module.
 
 Run at the root of the repository; with no FILE, all of crates/. --dry prints what it would change. It reads text alone: `rt check` says
-whether a name was needed after all."""
+whether a name was needed after all. `rt tidy` does the same of a proved crate's .antt files, by checks; this one takes `ghost use` of .rt files too."""
 import difflib, glob, re, sys
 
 USE = re.compile(r"^((?:ghost )?use )([^\s{]+)\.\{(.*)\}(;?)$")
-BEFORE, AFTER = r"(?<![^\s()\[\]{},;.«»⌜⌝‵!])", r"(?![^\s()\[\]{},;.«»⌜⌝])"
+BEFORE, AFTER = r"(?<![^\s()\[\]{},;.«»‵!])", r"(?![^\s()\[\]{},;.«»])"
 
 def is_used(name, body):
     """The name, or each part of an operator's name, stands in the text by itself."""
     name = name.split(" as ")[-1].strip()
-    operator = name.startswith("_") or name.endswith("_") or re.search(r"_\W|\W_", name)
-    parts = [p for p in name.split("_") if p] if operator else [name.strip("«»")]
+    parts = [p for p in name.split("◌") if p] if "◌" in name else [name.strip("«»")]
     return any(all(re.search(BEFORE + re.escape(p) + AFTER, body) for p in ps) for ps in (parts, [name]))
 
 def cleaned(text):

@@ -17,8 +17,9 @@ HELPERS = re.compile(r"basics|tally|count_check|cases_.*|fit_.+|program_.*|image
 DEFINITION = re.compile(r"^\s*(?:abbrev pub|unfoldable pub|pub record|pub data)\s+(\S+)")
 TYPE = re.compile(r"^\s*(?:pub )?(?:struct|enum) (\w+)")
 CASE = re.compile(r"^  (\S+) : ")
-TOKEN = re.compile(r"(?<![^\s()\[\]{},;«»⌜⌝])[^\s()\[\]{},;.«»⌜⌝]+")
-IMPORT = re.compile(r"use Rattle·(\w+)(?:·specs)?\.specs\.(\w+)(?:\.\{([^}]*)\}| as (\w+))")
+TOKEN = re.compile(r"(?<![^\s()\[\]{},;«»])[^\s()\[\]{},;.«»]+")
+IMPORT = re.compile(r"use Rattle\.(\w+)\.specs\.(\w+)(?:\.\{([^}]*)\}| as (\w+))")
+FUNCTION = re.compile(r'^( *)(?:pub )?(?:extern "C" )?fn (\w+)[^(]*\(', re.M)
 
 def without_comments(text):
     return "\n".join(re.sub(r"(^|\s)(--|//).*$", "", line) for line in text.split("\n"))
@@ -79,8 +80,19 @@ def contracts():
     """(function, its contract, the sources of its file), of each contract that a reader meets."""
     for path in sorted(glob.glob("crates/*/src/lib.rt")):
         crate, text = path.split("/")[1], open(path).read()
-        for name, contract in re.findall(r"fn (\w+)\b((?:[^{]|\{ (?:λ|⌜))*?)\n\s*\{\n", text):
-            if not HELPERS.fullmatch(crate) or (crate, name) in ALSO: yield f"{crate}::{name}", without_comments(contract), sources(text)
+        for name, contract in heads(text):
+            if not HELPERS.fullmatch(crate) or (crate, name) in ALSO: yield f"{crate}::{name}", contract, sources(text)
+
+def heads(text):
+    """(function, its signature and contract), of each function with a contract: then the brace of its body has a line of its own."""
+    text = without_comments(text)
+    for m in FUNCTION.finditer(text):
+        end, depth = m.end(), 1
+        while depth:
+            depth += {"(": 1, ")": -1}.get(text[end], 0)
+            end += 1
+        if text[end:text.index("\n", end)].endswith(("{", "}", ";")): continue
+        yield m[2], text[m.start():text.index(f"\n{m[1]}{{\n", end)]
 
 def statements():
     """The text of each theorem that docs/PROMISES.md names, with the sources of its file."""

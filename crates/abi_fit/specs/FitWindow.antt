@@ -7,7 +7,6 @@ use Rattle.config.specs.Configuration.{config_of}
 use Rattle.abi_encoding.specs.Encoding.{record_of, encoded, bad_encoding}
 use Rattle.recording.specs.Window.{window_of}
 use Rattle.recording.specs.declared.Window.{Window}
-use Rattle.recording.specs.declared.Window.TheVariants as Window
 use Rattle.fit.specs.Fit.{FitOutcome, fit_counts}
 
 -- ---- the fit: document 01, "The fit"

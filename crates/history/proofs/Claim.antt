@@ -33,7 +33,6 @@ use Rattle.calibrator.proofs.Step.{rule-lawful}
 use Rattle.image_layout.specs.Layout.{newest, image, previous_words}
 use Rattle.image.specs.Image.{saved_unless, save_refusal, end_restore, Taken, restored, lent_wrong}
 use Rattle.image.specs.declared.Restored.{Restored}
-use Rattle.image.specs.declared.Restored.TheVariants as Restored
 use Rattle.history.specs.Calls.{Call, quote, save, restore, observes, saves, restores, Acted, acted, after_restore, act, run, History, begins, new_history, gains, history_memory, history_refusal, Kept, Past, new_past, or_else, kept_with, returns, HistoryActed, history_acted, history_quote, history_save, history_restore, check_output_length, history_act, history_run, is_some, is_refused, Proper, OwnImages, ConfigWords}
 use Rattle.history.proofs.Holds.{Holds, new-holds, step-holds, quote-first, save-first, image-back}
 

@@ -19,7 +19,6 @@ use Rattle.image_words.specs.Words.{AllWords}
 use Rattle.image_layout.specs.Layout.{newest, image_length, image, previous_words}
 use Rattle.image.specs.Image.{Saved, saved, saved_unless, restored, lent_wrong}
 use Rattle.image.specs.declared.Restored.{Restored}
-use Rattle.image.specs.declared.Restored.TheVariants as Restored
 
 -- a save lends an output; a restore lends bytes, and the record and tables to fill
 pub data Call : Type 0 where

@@ -3,9 +3,7 @@ use Rattle.std.specs.Prelude.{ℕ, ◌≡◌, cond}
 use Rattle.config.specs.declared.MicroPriceConfig.{MicroPriceConfig}
 use Rattle.tally.specs.Rules.{Memory}
 use Rattle.calibrator.specs.declared.Previous.{Previous}
-use Rattle.image.specs.declared.Restored.TheVariants as Restored
 use Rattle.history.specs.Calls.{Call, act}
-use Rattle.history.specs.Demand.{left}
 use Rattle.history_replay.specs.Replay.{is_left_out, other_configuration, answer_number}
 
 -- what inner functions say of one call on the memory m: it ends with the number n and leaves the memory o

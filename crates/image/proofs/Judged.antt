@@ -20,7 +20,7 @@ use Rattle.config.specs.Configuration.{states, valid, check_config}
 use Rattle.config.specs.Inner.{Valid}
 use Rattle.config.specs.declared.MicroPriceConfig.{MicroPriceConfig}
 use Rattle.config.proofs.Known.{valid-known}
-use Rattle.tally.specs.Entries.{Tables, tables}
+use Rattle.tally.specs.Entries.{Tables}
 use Rattle.tally.specs.Rules.{Memory}
 use Rattle.count_check.specs.Mirrors.{check_mirrored}
 use Rattle.count_check.specs.Inner.{tables_in, HasTables}

@@ -1,6 +1,5 @@
 -- For the contracts and proofs of inner functions alone: what reading the tables of an image asks of the lengths.
 use Rattle.std.specs.Prelude.{ℕ, ◌≤◌, ◌≡◌, List, length}
-use Rattle.refusals.specs.declared.Check.TheVariants as Check
 use Rattle.config.specs.Configuration.{states}
 use Rattle.image_layout.specs.Layout.{cells, image_length, config_in}
 

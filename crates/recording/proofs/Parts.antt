@@ -15,7 +15,6 @@ use Rattle.basics.proofs.Tests.{le-or-lt}
 use Rattle.refusals.specs.Refusals.{refuse_if, first_of}
 use Rattle.refusals.proofs.Refusals.{if-fine, first_fine}
 use Rattle.refusals.specs.declared.Check.{Check}
-use Rattle.refusals.specs.declared.Check.TheVariants as Check
 use Rattle.refusals.specs.declared.Refusal.{Refusal}
 use Rattle.quotes.specs.declared.TopOfBook.{TopOfBook}
 use Rattle.calibrator.specs.Observe.{refuses}

@@ -13,7 +13,6 @@ use Rattle.basics.specs.Lists.{bit, count, any}
 use Rattle.basics.proofs.Tests.{le-or-lt, same_test}
 use Rattle.refusals.specs.Refusals.{refuse_if, first_of}
 use Rattle.refusals.specs.declared.Check.{Check}
-use Rattle.refusals.specs.declared.Check.TheVariants as Check
 use Rattle.refusals.specs.declared.Refusal.TheVariants.{SliceLength, RecordingUnsorted, WindowBackward}
 use Rattle.quotes.specs.declared.TopOfBook.{TopOfBook}
 use Rattle.recording.specs.Recording.{time_at, quote_at, quotes_of, sorted_from, sorted}

@@ -1,6 +1,5 @@
 -- `count_check::cell_in` meets its contract: an imaged table is read of the bytes, and word i of 8n bytes is cell i (`cell-imaged`); else the slice is the
 -- table, and the test alone decides. What `HasTable` says of the table's length, in bytes or in the slice, keeps each read inside.
-use native.Mathlib.Omega.{arith}
 use Rattle.count_check.proofs.Readings.{cell-imaged}
 use Rattle.count_check.proofs.cell_in.Goals as goal
 

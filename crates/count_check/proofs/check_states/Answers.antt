@@ -1,19 +1,7 @@
-use Prim.Native.Nat.{ℕ, ◌-◌}
-use mathlib.Core.Path.{◌≡◌, ap, ◌∙◌, sym}
-use mathlib.Core.Bool.{Bool}
-use mathlib.Core.List.{List}
-use native.Mathlib.Omega.{arith}
-use lib.IntN.{ℤ}
-use lib.ListN.{get_or}
-use borrow.Author.Count.{falls}
-use borrow.Author.Rules.{rules}
+use mathlib.Core.Path.{ap, ◌∙◌, sym}
 use Rattle.refusals.specs.Refusals.{first_from}
-use Rattle.refusals.specs.declared.Check.{Check}
-use Rattle.count_check.specs.Mirrors.{check_state}
-use Rattle.count_check.specs.Inner.{tables_in}
-use Rattle.refusals.proofs.Refusals.{first_step, first-stop, first-end}
+use Rattle.refusals.proofs.Refusals.{first_step, first-stop}
 use Rattle.count_check.proofs.Walks.{whole}
-use Rattle.count_check.proofs.check_states.Invariants.{state}
 use Rattle.count_check.proofs.check_states.Goals as goal
 
 pub loop-i-init : goal.loop-i-init

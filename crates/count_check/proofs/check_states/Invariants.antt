@@ -2,20 +2,15 @@
 -- the answer for those from i on. A state that refuses ends the walk (`first-stop`), one that does not leaves the rest (`first_step`), and of no state left
 -- nothing is refused (`first-end`).
 use Prim.Native.Nat.{ℕ, ◌-◌}
-use mathlib.Core.Path.{◌≡◌, ap, ◌∙◌, sym}
+use mathlib.Core.Path.{◌≡◌}
 use mathlib.Core.Bool.{Bool}
 use mathlib.Core.List.{List}
-use native.Mathlib.Omega.{arith}
 use lib.IntN.{ℤ}
 use lib.ListN.{get_or}
-use borrow.Author.Count.{falls}
-use borrow.Author.Rules.{rules}
 use Rattle.refusals.specs.Refusals.{first_from}
 use Rattle.refusals.specs.declared.Check.{Check}
 use Rattle.count_check.specs.Mirrors.{check_state}
 use Rattle.count_check.specs.Inner.{tables_in}
-use Rattle.refusals.proofs.Refusals.{first_step, first-stop, first-end}
-use Rattle.count_check.proofs.Walks.{whole}
 use Rattle.count_check.proofs.check_states.Given as goal
 
 abbrev pub state : ℕ → List ℕ → Bool → List ℕ → List ℕ → List ℤ → List ℕ → List ℕ → List ℕ → ℕ → Check

@@ -2,7 +2,6 @@
 -- configuration (`check-by`). `check_counts` asks that the table holds 256 numbers, at least one for each state, and that each is below the number of states
 -- (`mirrors-known`).
 use native.Mathlib.Omega.{arith}
-use borrow.Author.Rules.{rules}
 use Rattle.config.specs.Configuration.{states}
 use Rattle.quotes.specs.States.{mirror_of}
 use Rattle.calibrator.specs.Record.{counts_of}

@@ -2,14 +2,10 @@
 -- below i hold the mirrors (`filled-by` adds one), and level is the spread level of i, which `mirror_in` asks and `level_after` keeps. N is at most 256, so
 -- that each store is inside the array; at the end i has reached N.
 use Prim.Native.Nat.{ℕ, ◌-◌, ◌<◌}
-use mathlib.Core.Path.{◌≡◌, refl, ◌∙◌}
-use native.Mathlib.Omega.{arith}
-use lib.ListN.{length-set, length, get_or}
-use borrow.Author.Count.{falls, below_none}
+use mathlib.Core.Path.{◌≡◌}
+use lib.ListN.{length, get_or}
 use Rattle.quotes.specs.States.{mirror_of}
 use Rattle.quotes.specs.Inner.{HasLevel}
-use Rattle.quotes.proofs.Levels.{level-start}
-use Rattle.basics.proofs.Stores.{filled-by}
 use Rattle.count_check.proofs.mirrors_of.Given as goal
 
 abbrev pub invariant-loop-i : goal.invariant-loop-i

@@ -1,18 +1,11 @@
-use Prim.Native.Nat.{ℕ, ◌-◌}
-use mathlib.Core.Bool.{Bool, ◌&&◌}
-use mathlib.Core.Path.{◌≡◌, ap, ◌∙◌, sym}
-use mathlib.Core.List.{List, []}
-use native.Mathlib.Omega.{arith}
+use mathlib.Core.Bool.{◌&&◌}
+use mathlib.Core.Path.{◌≡◌, ◌∙◌, sym}
+use mathlib.Core.List.{[]}
 use lib.ListN.{get_or}
-use borrow.Author.Count.{falls}
-use borrow.Author.Tests.{not-true, not-false}
-use Rattle.basics.specs.Lists.{all_from}
-use Rattle.basics.proofs.Tests.{fits-mul}
 use Rattle.tally.specs.Entries.{Tables, tables}
-use Rattle.count_check.specs.Mirrors.{cell_mirrored}
 use Rattle.count_check.specs.Inner.{cells_in}
 use Rattle.count_check.proofs.Answers.{cell-is}
-use Rattle.count_check.proofs.Walks.{whole, all-step, all-stop, all_end}
+use Rattle.count_check.proofs.Walks.{all-step}
 use Rattle.count_check.proofs.row_mirrored.Invariants.{cell}
 use Rattle.count_check.proofs.row_mirrored.Goals as goal
 

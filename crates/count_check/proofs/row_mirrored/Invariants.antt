@@ -2,20 +2,14 @@
 -- mirrored exactly if its cells from j on are. A turn's two comparisons are the specified test of cell j (`alike`, by `cell-is`): where it fails the row fails
 -- (`all-stop`), else the walk goes on (`all-step`), and with no cell left it holds (`all_end`). Places are inside the tables because mirrors are below n.
 use Prim.Native.Nat.{ℕ, ◌-◌}
-use mathlib.Core.Bool.{Bool, ◌&&◌}
-use mathlib.Core.Path.{◌≡◌, ap, ◌∙◌, sym}
+use mathlib.Core.Bool.{Bool}
+use mathlib.Core.Path.{◌≡◌}
 use mathlib.Core.List.{List, []}
-use native.Mathlib.Omega.{arith}
 use lib.ListN.{get_or}
-use borrow.Author.Count.{falls}
-use borrow.Author.Tests.{not-true, not-false}
 use Rattle.basics.specs.Lists.{all_from}
-use Rattle.basics.proofs.Tests.{fits-mul}
-use Rattle.tally.specs.Entries.{Tables, tables}
+use Rattle.tally.specs.Entries.{tables}
 use Rattle.count_check.specs.Mirrors.{cell_mirrored}
 use Rattle.count_check.specs.Inner.{cells_in}
-use Rattle.count_check.proofs.Answers.{cell-is}
-use Rattle.count_check.proofs.Walks.{whole, all-step, all-stop, all_end}
 use Rattle.count_check.proofs.row_mirrored.Given as goal
 
 abbrev pub cell : ℕ → List ℕ → List ℕ → List ℕ → List ℕ → List ℕ → Bool → ℕ → ℕ → Bool

@@ -1,11 +1,5 @@
-use Prim.Native.Nat.{◌+◌, ◌-◌, ◌≤◌, min}
-use mathlib.Core.Path.{◌≡◌, ap, ◌∙◌}
-use native.Mathlib.Omega.{arith}
-use lib.ListN.{drop}
-use borrow.Author.Count.{falls}
-use Rattle.basics.specs.Lists.{sum}
-use Rattle.count_check.specs.Inner.{cells_in, sum_cap}
-use Rattle.count_check.proofs.Sums.{sum_step, sum-end}
+use mathlib.Core.Path.{◌∙◌}
+use Rattle.count_check.proofs.Sums.{sum-end}
 use Rattle.count_check.proofs.Readings.{cells-length}
 use Rattle.count_check.proofs.sum_capped.Goals as goal
 

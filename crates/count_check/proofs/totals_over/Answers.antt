@@ -1,15 +1,7 @@
-use Prim.Native.Nat.{◌-◌}
-use mathlib.Core.Path.{◌≡◌, refl, sym, ◌∙◌}
-use mathlib.Core.Bool.{not}
-use native.Mathlib.Omega.{arith}
+use mathlib.Core.Path.{sym, ◌∙◌}
 use lib.IntN.{pos}
-use lib.ListN.{get_or, drop}
-use borrow.Author.Count.{falls}
-use Rattle.basics.specs.Lists.{any}
 use Rattle.tally.specs.Entries.{over_total}
-use Rattle.count_check.specs.Inner.{totals_in}
-use Rattle.count_check.proofs.Totals.{over-is}
-use Rattle.count_check.proofs.Walks.{any_step, any-stop, any-end}
+use Rattle.count_check.proofs.Walks.{any-end}
 use Rattle.count_check.proofs.Readings.{totals-length}
 use Rattle.count_check.proofs.totals_over.Goals as goal
 

@@ -2,18 +2,11 @@
 -- i on is. A turn's test of the word is the test of the total (`over`, by `over-is`): where it is over the answer is known (`any-stop`), else the rest decides
 -- (`any_step`), and of no total left none is over (`any-end`).
 use Prim.Native.Nat.{◌-◌}
-use mathlib.Core.Path.{◌≡◌, refl, sym, ◌∙◌}
-use mathlib.Core.Bool.{not}
-use native.Mathlib.Omega.{arith}
-use lib.IntN.{pos}
-use lib.ListN.{get_or, drop}
-use borrow.Author.Count.{falls}
+use mathlib.Core.Path.{◌≡◌}
+use lib.ListN.{drop}
 use Rattle.basics.specs.Lists.{any}
 use Rattle.tally.specs.Entries.{over_total}
 use Rattle.count_check.specs.Inner.{totals_in}
-use Rattle.count_check.proofs.Totals.{over-is}
-use Rattle.count_check.proofs.Walks.{any_step, any-stop, any-end}
-use Rattle.count_check.proofs.Readings.{totals-length}
 use Rattle.count_check.proofs.totals_over.Given as goal
 
 abbrev pub invariant-loop-i : goal.invariant-loop-i

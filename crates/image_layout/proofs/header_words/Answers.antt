@@ -4,7 +4,6 @@ use mathlib.Core.List.{[]}
 use Rattle.tally.specs.Entries.{tables}
 use Rattle.image_layout.specs.Layout.{newest}
 use Rattle.image_layout.proofs.Parts.{header_is}
-use borrow.Author.Rules.{rules}
 use Rattle.image_layout.proofs.header_words.Goals as goal
 
 pub returns : goal.returns

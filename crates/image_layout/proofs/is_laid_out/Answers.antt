@@ -9,7 +9,6 @@ use Rattle.basics.specs.Lists.{same_words}
 use Rattle.image_layout.specs.Layout.{newest, header_in}
 use Rattle.image_layout.proofs.Parts.{length-header}
 use Rattle.image_layout.proofs.Headers.{laid-out-is}
-use borrow.Author.Rules.{rules}
 use Rattle.image_layout.proofs.is_laid_out.Goals as goal
 
 pub returns : goal.returns

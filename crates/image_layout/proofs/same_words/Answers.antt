@@ -1,10 +1,6 @@
-use mathlib.Core.Path.{◌≡◌, sym, ◌∙◌}
-use Prim.Native.Nat.{◌-◌, ◌≤◌}
+use mathlib.Core.Path.{◌∙◌}
 use native.Mathlib.Omega.{arith}
-use lib.ListN.{length}
-use Rattle.basics.specs.Lists.{same_words}
-use Rattle.image_layout.specs.Layout.{header_in}
-use Rattle.image_layout.proofs.Headers.{same_from, same_start, same_differs, same-agrees, same_end}
+use Rattle.image_layout.proofs.Headers.{same_start, same-agrees}
 use Rattle.image_layout.proofs.same_words.Goals as goal
 
 pub loop-i-init : goal.loop-i-init

@@ -1,13 +1,12 @@
 -- `image_layout::same_words` meets its contract: whether the words of bytes are those of h. Loop over i, measure what is left of h; invariant: all words are
 -- the same exactly if those from i on are. A word that differs ends the walk (`same_differs`), one that agrees leaves the rest (`same-agrees`), and with no
 -- word left all are the same (`same_end`).
-use mathlib.Core.Path.{◌≡◌, sym, ◌∙◌}
+use mathlib.Core.Path.{◌≡◌}
 use Prim.Native.Nat.{◌-◌, ◌≤◌}
-use native.Mathlib.Omega.{arith}
 use lib.ListN.{length}
 use Rattle.basics.specs.Lists.{same_words}
 use Rattle.image_layout.specs.Layout.{header_in}
-use Rattle.image_layout.proofs.Headers.{same_from, same_start, same_differs, same-agrees, same_end}
+use Rattle.image_layout.proofs.Headers.{same_from}
 use Rattle.image_layout.proofs.same_words.Given as goal
 
 abbrev pub invariant-loop-i : goal.invariant-loop-i

@@ -1,11 +1,9 @@
 -- `quotes::state_of` meets its contract: the configuration's refusal comes first, then the quote's, then the place, as the definition has them, so each way out
 -- is the definition with the tests before it decided. What the calls ask is what the passed tests say: a valid configuration (`valid-known`), an accepted quote
 -- (`fine-known`). No loop.
-use borrow.Author.Tests.{not-true, not-false}
 use Rattle.config.proofs.Known.{valid-known}
 use Rattle.quotes.proofs.Known.{fine-known}
 use mathlib.Core.Path.{sym, ◌∙◌}
-use borrow.Author.Rules.{rules}
 use Rattle.quotes.proofs.state_of.Goals as goal
 
 pub place_of-requires : goal.place_of-requires

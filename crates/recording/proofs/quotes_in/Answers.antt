@@ -1,7 +1,6 @@
 -- `recording::quotes_in` meets its contract: the ends of any window lie in order in the recording (`ends-known`), which `part_of` asks, and its part at the
 -- ends that were found is the part of the definition.
 use Rattle.recording.proofs.Windows.{ends-known}
-use borrow.Author.Rules.{rules}
 use Rattle.recording.proofs.quotes_in.Goals as goal
 
 pub part_of-requires : goal.part_of-requires

@@ -2,9 +2,7 @@
 -- and the part would end before it begins exactly where the definition says 15. The ways out: words that are no multiple of five (`way-uneven`), times not in
 -- order (`way-unsorted`), a backward window with a quote in it (`way-backward`), and the part (`way-part`). No loop.
 use mathlib.Core.Path.{sym, ◌∙◌}
-use borrow.Author.Tests.{not-true, not-false}
-use Rattle.recording.proofs.Windows.{way-uneven, way-unsorted, way-backward, way-part}
-use borrow.Author.Rules.{rules}
+use Rattle.recording.proofs.Windows.{way-backward, way-part}
 use Rattle.recording.proofs.window_of.Goals as goal
 
 pub returns-then-past-first : goal.returns-then-past-first

@@ -1,14 +1,8 @@
 -- `calibrator::inner::check_table_lengths` meets its contract: 1 for a configuration that is not valid, else 7 for tables of wrong lengths, else nothing. The
 -- first way out rewrites `check_table_lengths` by what `is_valid` ensures; the other two by what the calls up to the second test ensure (`judged`) and by that
 -- test. No loop. `state_count` and `wrong_lengths` may be called since the configuration is valid there, with at most 256 states (`valid-known`).
-use mathlib.Core.Path.{◌≡◌, sym, ◌∙◌}
-use native.Mathlib.Omega.{arith}
-use borrow.Author.Tests.{not-true, not-false}
-use Rattle.refusals.specs.Refusals.{refuse_if}
+use mathlib.Core.Path.{sym, ◌∙◌}
 use Rattle.config.proofs.Known.{valid-known}
-use Rattle.calibrator.specs.Observe.{check_table_lengths}
-use Rattle.calibrator.proofs.Lengths.{lengths-judged}
-use borrow.Author.Rules.{rules}
 use Rattle.calibrator.proofs.inner.check_table_lengths.Goals as goal
 
 pub state_count-requires : goal.state_count-requires

@@ -1,9 +1,7 @@
 -- `calibrator::inner::count_pair` meets its contract. It ends in three ways: the counter of pairs is full (`way-full`), a touched cell or total would pass its
 -- limit (`way-over`), or the pair is entered (`way-entered`). Each law takes what the calls on the way give and ensure and the two tests, in the code's order.
 -- No loop. That the pair lies in the tables is `pair-placed`; that the counter can be added to is `may_add`, from the first test.
-use borrow.Author.Tests.{not-false}
-use Rattle.calibrator.proofs.Ways.{pair-placed, within-limit, may_add, way-full, way-over, way-entered}
-use borrow.Author.Rules.{rules}
+use Rattle.calibrator.proofs.Ways.{pair-placed, within-limit}
 use Rattle.calibrator.proofs.inner.count_pair.Goals as goal
 
 pub enter_pair-requires : goal.enter_pair-requires

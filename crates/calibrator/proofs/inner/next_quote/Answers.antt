@@ -3,7 +3,6 @@
 -- within bounds, which a pair that two accepted quotes make has (`counted-known`).
 use mathlib.Core.Path.{sym, ◌∙◌}
 use Rattle.calibrator.proofs.Ways.{counted-known, way-found}
-use borrow.Author.Rules.{rules}
 use Rattle.calibrator.proofs.inner.next_quote.Goals as goal
 
 pub count_pair-requires : goal.count_pair-requires

@@ -2,13 +2,9 @@
 -- (`way-lengths`), there is no quote before this one (`way-first`), the pair of quotes is refused (`way-judged`), and the pair goes on to `next_quote`
 -- (`way_next`). No loop. What a way needs of the configuration is `tables-known`, from `check_table_lengths`'s word; of the two quotes `pair-known`, from
 -- `judge_pair`'s.
-use mathlib.Core.Path.{◌≡◌, sym, ◌∙◌}
-use lib.ListN.{length}
-use Rattle.refusals.specs.declared.Check.TheVariants.{Fine}
-use Rattle.calibrator.specs.Observe.{check_table_lengths}
+use mathlib.Core.Path.{sym, ◌∙◌}
 use Rattle.calibrator.proofs.Lengths.{tables-known}
-use Rattle.calibrator.proofs.Ways.{pair-known, way-lengths, way-first, way-judged, way_next}
-use borrow.Author.Rules.{rules}
+use Rattle.calibrator.proofs.Ways.{pair-known}
 use Rattle.calibrator.proofs.inner.observe.Goals as goal
 
 pub next_quote-requires : goal.next_quote-requires

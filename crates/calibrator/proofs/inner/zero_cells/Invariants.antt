@@ -1,11 +1,8 @@
 -- `calibrator::inner::zero_cells` meets its contract: every place of the table is set to 0. Loop: the i places before are 0 and the rest and the length are as
 -- lent (`Stored`, one step is `stored_more`); measure: the places left. At the end i is the length, so zeros stand at every place (`stored-all`).
 use Prim.Native.Nat.{◌≤◌, ◌-◌}
-use mathlib.Core.Path.{refl}
-use native.Mathlib.Omega.{arith}
-use borrow.Author.Rules.{rules}
-use lib.ListN.{length, length-set}
-use Rattle.basics.proofs.Stores.{Stored, stored-none, stored_more, stored-all}
+use lib.ListN.{length}
+use Rattle.basics.proofs.Stores.{Stored}
 use Rattle.calibrator.proofs.inner.zero_cells.Given as goal
 
 abbrev pub invariant-loop-i : goal.invariant-loop-i

@@ -1,10 +1,6 @@
-use Prim.Native.Nat.{◌≤◌, ◌-◌}
-use mathlib.Core.Path.{refl}
 use native.Mathlib.Omega.{arith}
-use borrow.Author.Rules.{rules}
-use lib.ListN.{length, length-set}
 use lib.IntN.{pos}
-use Rattle.basics.proofs.Stores.{Stored, stored-none, stored_more, stored-all}
+use Rattle.basics.proofs.Stores.{stored-all}
 use Rattle.calibrator.proofs.inner.zero_totals.Goals as goal
 
 pub returns : goal.returns

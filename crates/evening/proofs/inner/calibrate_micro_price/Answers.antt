@@ -6,8 +6,7 @@ use lib.ListN.{length}
 use Rattle.calibrator.specs.Record.{memory}
 use Rattle.recording.proofs.Windows.{ends-known}
 use Rattle.recording.proofs.Parts.{handed-known}
-use Rattle.evening.proofs.Evenings.{tables-fine, part-even, evening-is, evening-refused}
-use borrow.Author.Rules.{rules}
+use Rattle.evening.proofs.Evenings.{tables-fine, part-even, evening-is}
 use Rattle.evening.proofs.inner.calibrate_micro_price.Goals as goal
 
 pub part_of-part-requires : goal.part_of-part-requires

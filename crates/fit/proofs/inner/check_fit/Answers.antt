@@ -1,13 +1,11 @@
 -- `fit::inner::check_fit` meets its contract: the refusals in the order of `fit_refusal`, 1 and 7 of `check_table_lengths`, 7 of scratch and the model table,
 -- then 6, 9, 10 and 11. No loop. Three ways out, each by what the calls before it answered. Where `check_table_lengths` is fine, the configuration is valid and
 -- the tables have their lengths (`known`), as the callees ask.
-use mathlib.Core.Path.{◌≡◌, sym, ap, ◌∙◌}
+use mathlib.Core.Path.{sym, ◌∙◌}
 use lib.ListN.{length}
 use Rattle.config.specs.Configuration.{states}
 use Rattle.config.specs.Inner.{Valid}
 use Rattle.calibrator.proofs.Lengths.{RightLengths, tables-known, lengths-known}
-use Rattle.fit.specs.Fit.{wrong_fit_lengths}
-use borrow.Author.Rules.{rules}
 use Rattle.fit.proofs.inner.check_fit.Goals as goal
 
 pub check_mirrored_counts-requires : goal.check_mirrored_counts-requires

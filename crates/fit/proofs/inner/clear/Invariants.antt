@@ -1,10 +1,8 @@
 -- `fit::inner::clear` meets its contract: plus zero at every place. Invariant: the first i places hold plus zero (`Stored`; `stored-none`, `stored_more`). The
 -- measure is the length less i. At the way out every place holds plus zero (`stored-all`).
 use Prim.Native.Nat.{◌-◌}
-use mathlib.Core.Path.{refl}
-use native.Mathlib.Omega.{arith}
-use lib.ListN.{length, length-set}
-use Rattle.basics.proofs.Stores.{Stored, stored-none, stored_more, stored-all}
+use lib.ListN.{length}
+use Rattle.basics.proofs.Stores.{Stored}
 use Rattle.floats.specs.Floats.{pos_zero}
 use Rattle.fit.proofs.inner.clear.Given as goal
 

@@ -6,8 +6,7 @@ use native.Mathlib.Omega.{arith}
 use lib.ListN.{length, replicate}
 use Rattle.floats.specs.Floats.{pos_zero}
 use Rattle.calibrator.specs.Record.{memory}
-use Rattle.fit.proofs.Known.{Fittable, fit-known, exact-of, usable-of, scratch-of, whole-refused, whole}
-use borrow.Author.Rules.{rules}
+use Rattle.fit.proofs.Known.{fit-known, exact-of, usable-of, scratch-of, whole}
 use Rattle.fit.proofs.inner.fit_counts_with.Goals as goal
 
 pub state_count-n-requires : goal.state_count-n-requires

@@ -3,7 +3,6 @@
 -- which the marks are the marks of the cells and one state is used.
 use Rattle.fit.specs.Inner.{given_in}
 use Rattle.fit.proofs.Ends.{ends-unsolved, ends-refused, ends-fitted}
-use borrow.Author.Rules.{rules}
 use Rattle.fit.proofs.inner.fit_marked.Goals as goal
 
 pub returns-in_default : goal.returns-in_default

@@ -3,7 +3,6 @@
 -- states.
 use mathlib.Core.Path.{sym, ◌∙◌}
 use native.Mathlib.Omega.{arith}
-use borrow.Author.Tests.{not-true, not-false}
 use Rattle.fit.specs.Inner.{given_in}
 use Rattle.fit.proofs.Ends.{marks-of, marked-used, ends-none}
 use borrow.Author.Rules.{rules}

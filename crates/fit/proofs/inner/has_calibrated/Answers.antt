@@ -1,9 +1,6 @@
-use Prim.Native.Nat.{◌-◌}
 use native.Mathlib.Omega.{arith}
 use borrow.Author.Tests.{eq-eqb, ne_eqb}
-use lib.Dec.{eqb}
-use lib.ListN.{get_or}
-use Rattle.fit_marking.proofs.Below.{Searching, searching-none, searching-more, searching-found, searching-all}
+use Rattle.fit_marking.proofs.Below.{searching-none, searching-more, searching-found}
 use Rattle.fit.proofs.inner.has_calibrated.Goals as goal
 
 pub returns-then-marks-i-eq0 : goal.returns-then-marks-i-eq0

@@ -1,11 +1,9 @@
 -- `fit::inner::has_calibrated` meets its contract: a loop over the marks that stops at the first 0. Invariant: none of the first i marks is 0 (`Searching`).
 -- The measure is n less i. The ways out: a mark 0 (`searching-found`), and the end (`searching-all`).
 use Prim.Native.Nat.{◌-◌}
-use native.Mathlib.Omega.{arith}
-use borrow.Author.Tests.{eq-eqb, ne_eqb}
 use lib.Dec.{eqb}
 use lib.ListN.{get_or}
-use Rattle.fit_marking.proofs.Below.{Searching, searching-none, searching-more, searching-found, searching-all}
+use Rattle.fit_marking.proofs.Below.{Searching}
 use Rattle.fit.proofs.inner.has_calibrated.Given as goal
 
 abbrev pub invariant-loop-i : goal.invariant-loop-i

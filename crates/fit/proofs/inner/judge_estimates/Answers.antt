@@ -1,9 +1,7 @@
-use Prim.Native.Nat.{◌≤◌, ◌-◌}
 use mathlib.Core.Path.{ap}
 use mathlib.Core.Bool.{not}
 use native.Mathlib.Omega.{arith}
-use borrow.Author.Rules.{rules}
-use Rattle.fit.proofs.Judging.{OfRows, Seen, seen_none, seen_more, judged-no, judged-none, judged-fine}
+use Rattle.fit.proofs.Judging.{seen_none, seen_more, judged-no, judged-none, judged-fine}
 use Rattle.fit.proofs.inner.judge_estimates.Goals as goal
 
 pub returns-then-not-is_representable : goal.returns-then-not-is_representable
@@ -13,10 +11,10 @@ returns-then-not-is_representable c least totals m =
 
 pub loop-i-preserved : goal.loop-i-preserved
 loop-i-preserved c = (
-      omega arith,
-      λ least totals m. seen_more (c.loop-i.invariant.1 least totals m) (c.state_estimate-e.ensures least totals m)
-          c.is_representable.ensures (ap not c.if-not-is_representable.false),
-    )
+  omega arith,
+  λ least totals m. seen_more (c.loop-i.invariant.1 least totals m) (c.state_estimate-e.ensures least totals m)
+      c.is_representable.ensures (ap not c.if-not-is_representable.false),
+)
 
 pub returns-then-not-found : goal.returns-then-not-found
 returns-then-not-found c least totals m =

@@ -2,9 +2,7 @@
 -- Invariant (`Seen`), for every least count and every totals for which the marks are the marks of the cells: the estimates below i can be represented, and
 -- `found` says whether one of them is Calibrated. The measure is n less i. The ways out: `judged-no`, `judged-none` and `judged-fine`.
 use Prim.Native.Nat.{◌≤◌, ◌-◌}
-use native.Mathlib.Omega.{arith}
-use borrow.Author.Rules.{rules}
-use Rattle.fit.proofs.Judging.{OfRows, Seen, seen_none, seen_more, judged-no, judged-none, judged-fine}
+use Rattle.fit.proofs.Judging.{OfRows, Seen}
 use Rattle.fit.proofs.inner.judge_estimates.Given as goal
 
 abbrev pub invariant-loop-i : goal.invariant-loop-i

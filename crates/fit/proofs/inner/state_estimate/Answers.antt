@@ -1,9 +1,6 @@
 -- `fit::inner::state_estimate` meets its contract: state i's estimate, made of what scratch has for it and its mirror, of its observations and of its mark;
 -- where the marks are the marks of the cells that is the row of state i, whatever the least count and the totals (`row_made`). No loop. The callees ask that i
 -- and its mirror are states, and that bucket and spread are small: the remainder and the quotient of i are at most i.
-use native.Mathlib.Nat.{mod-le, div-le_self}
-use native.Mathlib.Omega.{arith}
-use borrow.Author.Rules.{rules}
 use Rattle.fit.proofs.Judging.{row_made}
 use Rattle.fit.proofs.inner.state_estimate.Goals as goal
 

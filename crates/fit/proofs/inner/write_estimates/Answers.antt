@@ -1,18 +1,14 @@
-use Prim.Native.Nat.{◌≤◌, ◌-◌}
-use mathlib.Core.Path.{◌≡◌, refl}
 use native.Mathlib.Omega.{arith}
-use borrow.Author.Rules.{rules}
-use lib.ListN.{length}
-use Rattle.fit.proofs.Judging.{OfRows, Writing, writing-none, writing_more, writing-all}
+use Rattle.fit.proofs.Judging.{writing_more, writing-all}
 use Rattle.fit.proofs.inner.write_estimates.Goals as goal
 
 pub loop-i-preserved : goal.loop-i-preserved
 loop-i-preserved c = (
-      omega arith,
-      omega arith,
-      λ least totals m. writing_more (c.loop-i.invariant.2 least totals m) (c.state_estimate-e.ensures least totals m)
-          c.write_row.ensures,
-    )
+  omega arith,
+  omega arith,
+  λ least totals m. writing_more (c.loop-i.invariant.2 least totals m) (c.state_estimate-e.ensures least totals m)
+      c.write_row.ensures,
+)
 
 pub returns : goal.returns
 returns c least totals m =

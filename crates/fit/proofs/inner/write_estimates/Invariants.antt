@@ -2,11 +2,9 @@
 -- count and every totals for which the marks are the marks of the cells, its first i rows are those of the states below i (`Writing`; `writing-none`,
 -- `writing_more`). The measure is n less i. The way out: i is n, and n rows of 7 words are the whole table (`writing-all`).
 use Prim.Native.Nat.{◌≤◌, ◌-◌}
-use mathlib.Core.Path.{◌≡◌, refl}
-use native.Mathlib.Omega.{arith}
-use borrow.Author.Rules.{rules}
+use mathlib.Core.Path.{◌≡◌}
 use lib.ListN.{length}
-use Rattle.fit.proofs.Judging.{OfRows, Writing, writing-none, writing_more, writing-all}
+use Rattle.fit.proofs.Judging.{OfRows, Writing}
 use Rattle.fit.proofs.inner.write_estimates.Given as goal
 
 abbrev pub invariant-loop-i : goal.invariant-loop-i

@@ -2,13 +2,10 @@
 -- of another number of calls (`coded-count`) are badly coded. Invariant of the loop: the list has six words for each answer, and all calls are good exactly if
 -- those from k on are (`coded-step`). Measure: the answers less k. A bad call ends it with false (`coded-stop`), the end of the list with true (`coded-end`).
 use Prim.Native.Nat.{◌*◌, ◌-◌}
-use mathlib.Core.Path.{◌≡◌, ap}
-use native.Mathlib.Omega.{arith}
+use mathlib.Core.Path.{◌≡◌}
 use lib.ListN.{length}
 use Rattle.basics.specs.Lists.{all_from}
-use Rattle.count_check.proofs.Walks.{whole}
 use Rattle.history_replay.specs.Replay.{is_call}
-use Rattle.history_replay.proofs.Coding.{coded-ragged, coded-count, coded-length, coded-stop, coded-step, coded-end}
 use Rattle.history_replay.proofs.inner.is_well_coded.Given as goal
 
 abbrev pub invariant-loop-k : goal.invariant-loop-k

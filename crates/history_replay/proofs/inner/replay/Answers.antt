@@ -1,10 +1,5 @@
-use Prim.Native.Nat.{◌-◌}
-use mathlib.Core.Path.{◌≡◌, refl, ◌∙◌}
 use native.Mathlib.Omega.{arith}
-use lib.ListN.{length}
-use borrow.Author.Rules.{rules}
-use Rattle.history_replay.specs.Replay.{site}
-use Rattle.history_replay.proofs.Replaying.{Replaying, bad-encoding, replaying-start, replaying-call, replaying-step, replaying-done}
+use Rattle.history_replay.proofs.Replaying.{replaying-call, replaying-step, replaying-done}
 use Rattle.history_replay.proofs.inner.replay.Goals as goal
 
 pub replay_call-done-requires : goal.replay_call-done-requires
@@ -14,8 +9,11 @@ replay_call-done-requires c =
 pub loop-k-preserved : goal.loop-k-preserved
 loop-k-preserved c =
     let l = c.loop-k in (
-      c.stay-1.given ∙ l.invariant.0,
-      c.moved-1.given ∙ l.invariant.1,
-      c.move_half_ticks-1.given ∙ l.invariant.2,
-      replaying-step l.invariant.3 c.loop-k-test.true c.replay_call-done.ensures c.room-1.given,
+      omega arith,
+      omega arith,
+      omega arith,
+      replaying-step l.invariant.3 c.loop-k-test.true c.replay_call-done.ensures c.replay_call-done.auto.room,
     )
+
+pub returns : goal.returns
+returns c = replaying-done c.loop-k.invariant.3 c.loop-k-test.false

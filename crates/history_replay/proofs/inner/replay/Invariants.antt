@@ -3,12 +3,10 @@
 -- first (`replaying-start`), gives what call k asks (`replaying-call`), is kept (`replaying-step`), at the end it is the replay (`replaying-done`). Measure:
 -- answers − k.
 use Prim.Native.Nat.{◌-◌}
-use mathlib.Core.Path.{◌≡◌, refl, ◌∙◌}
-use native.Mathlib.Omega.{arith}
+use mathlib.Core.Path.{◌≡◌}
 use lib.ListN.{length}
-use borrow.Author.Rules.{rules}
 use Rattle.history_replay.specs.Replay.{site}
-use Rattle.history_replay.proofs.Replaying.{Replaying, bad-encoding, replaying-start, replaying-call, replaying-step, replaying-done}
+use Rattle.history_replay.proofs.Replaying.{Replaying}
 use Rattle.history_replay.proofs.inner.replay.Given as goal
 
 abbrev pub invariant-loop-k : goal.invariant-loop-k

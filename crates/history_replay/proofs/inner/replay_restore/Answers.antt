@@ -3,8 +3,7 @@
 -- that is left (`restore-ends`): a refused restore leaves the memory as it was, which is what a restore into one's own memory says. No loop; the callees
 -- require nothing.
 use Rattle.calibrator.specs.Record.{memory}
-use Rattle.history_replay.proofs.Steps.{restore-left-out, restore-ends}
-use borrow.Author.Rules.{rules}
+use Rattle.history_replay.proofs.Steps.{restore-ends}
 use Rattle.history_replay.proofs.inner.replay_restore.Goals as goal
 
 pub returns : goal.returns

@@ -3,9 +3,8 @@
 -- N² and N words (`parts-lie`), and their words are the image's tables (`parts_are`).
 use Rattle.tally.specs.Entries.{tables}
 use Rattle.image_layout.specs.Layout.{newest}
-use Rattle.image.proofs.Ways.{held-seven, held-eight, held-checked}
-use Rattle.image.proofs.Judged.{parts-lie, parts_are}
-use borrow.Author.Rules.{rules}
+use Rattle.image.proofs.Ways.{held-checked}
+use Rattle.image.proofs.Judged.{parts_are}
 use Rattle.image.proofs.inner.check_held.Goals as goal
 
 pub returns : goal.returns

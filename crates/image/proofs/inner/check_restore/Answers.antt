@@ -4,23 +4,21 @@
 use mathlib.Core.Path.{◌≡◌, sym, ap, ◌∙◌}
 use mathlib.Core.Bool.{true, not}
 use Prim.Native.Nat.{ℕ}
-use borrow.Author.Tests.{not-false}
 use Rattle.config.proofs.Known.{valid-known}
 use Rattle.tally.specs.Entries.{tables}
 use Rattle.image_layout.specs.Layout.{newest, image_length, form_in, config_in, record_in, laid_out}
 use Rattle.image.specs.Image.{held_refusal}
-use Rattle.image.proofs.Ways.{way-short, way-invalid, way-layout, way-held}
+use Rattle.image.proofs.Ways.{way-layout, way-held}
 use Rattle.image.proofs.Judged.{read-newest, laid-out-read, laid-out-whole}
-use borrow.Author.Rules.{rules}
 use Rattle.image.proofs.inner.check_restore.Goals as goal
 
 pub is_laid_out-requires : goal.is_laid_out-requires
 is_laid_out-requires c = (
-      valid-known _ (sym c.is_valid.ensures ∙ c.if-not-is_valid.false),
-      c.if-b-lt-LEAST.false,
-      c.config_in-config.ensures,
-      c.record_in-rec.ensures,
-    )
+  valid-known _ (sym c.is_valid.ensures ∙ c.if-not-is_valid.false),
+  c.if-b-lt-LEAST.false,
+  c.config_in-config.ensures,
+  c.record_in-rec.ensures,
+)
 
 pub returns-then-not-is_laid_out : goal.returns-then-not-is_laid_out
 returns-then-not-is_laid_out c =

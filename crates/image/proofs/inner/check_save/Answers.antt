@@ -4,12 +4,10 @@
 use mathlib.Core.Path.{◌≡◌, sym, ◌∙◌}
 use mathlib.Core.Bool.{false}
 use lib.ListN.{length}
-use borrow.Author.Tests.{eq-eqb, ne_eqb}
 use Rattle.config.specs.Configuration.{states}
 use Rattle.config.specs.Inner.{Valid}
 use Rattle.calibrator.specs.Observe.{wrong_lengths}
 use Rattle.calibrator.proofs.Lengths.{tables-known, lengths-known}
-use borrow.Author.Rules.{rules}
 use Rattle.image.proofs.inner.check_save.Goals as goal
 
 pub check_mirrored_counts-requires : goal.check_mirrored_counts-requires

@@ -3,7 +3,6 @@
 use Rattle.image_layout.specs.Layout.{newest}
 use Rattle.image.proofs.Ways.{read_is}
 use mathlib.Core.Path.{refl}
-use borrow.Author.Rules.{rules}
 use Rattle.image.proofs.inner.read_tables.Goals as goal
 
 pub returns : goal.returns

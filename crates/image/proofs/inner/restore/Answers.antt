@@ -11,8 +11,7 @@ use Rattle.image_layout.specs.Layout.{memory_in}
 use Rattle.image.specs.Image.{restore_refusal}
 use Rattle.image.specs.Inner.{Readable}
 use Rattle.image.proofs.Ways.{way-restored}
-use Rattle.image.proofs.Judged.{restore-known, restore-newest, restore-readable}
-use borrow.Author.Rules.{rules}
+use Rattle.image.proofs.Judged.{restore-newest, restore-readable}
 use Rattle.image.proofs.inner.restore.Goals as goal
 
 pub read_tables-requires : goal.read_tables-requires

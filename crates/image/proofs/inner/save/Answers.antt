@@ -4,7 +4,6 @@ use mathlib.Core.Path.{sym, ◌∙◌}
 use lib.ListN.{length}
 use Rattle.calibrator.specs.Record.{memory}
 use Rattle.image.proofs.Judged.{save-known}
-use borrow.Author.Rules.{rules}
 use Rattle.image.proofs.inner.save.Goals as goal
 
 pub write_image-requires : goal.write_image-requires

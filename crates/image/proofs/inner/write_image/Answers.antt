@@ -2,10 +2,9 @@
 -- that the contract requires gives each table its place, as no store changes the length (`stay-inside`, `moved_inside`, `totals-inside`); the four stores
 -- together fill the output with the image (`image-written`). No loop.
 use native.Mathlib.Omega.{arith}
-use borrow.Author.Rules.{rules}
 use Rattle.calibrator.proofs.Lengths.{lengths-known}
 use Rattle.image_layout.specs.Layout.{newest}
-use Rattle.image.proofs.Written.{Writable, stay-inside, moved_inside, totals-inside, image-written}
+use Rattle.image.proofs.Written.{Writable, image-written}
 use Rattle.image.proofs.inner.write_image.Goals as goal
 
 pub returns : goal.returns

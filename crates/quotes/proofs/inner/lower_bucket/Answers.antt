@@ -3,10 +3,7 @@
 use Prim.Native.Nat.{ℕ, ◌-◌, ◌+◌, ◌*◌, ◌/◌}
 use mathlib.Core.Path.{◌≡◌, sym, ap, ◌∙◌}
 use native.Mathlib.Omega.{arith}
-use Rattle.basics.proofs.Tests.{fits-mul}
-use Rattle.basics.specs.Domain.{most}
 use Rattle.quotes.proofs.Buckets.{by-division}
-use borrow.Author.Rules.{rules}
 use Rattle.quotes.proofs.inner.lower_bucket.Goals as goal
 
 pub returns : goal.returns

@@ -1,5 +1,4 @@
 -- `quotes::inner::mirror_in` meets its contract: as far from the level's last state as the state is from its first is the mirror (`level-mirror`). No loop.
-use borrow.Author.Rules.{rules}
 use Rattle.quotes.proofs.Levels.{level-mirror}
 use Rattle.quotes.proofs.inner.mirror_in.Goals as goal
 

@@ -1,9 +1,6 @@
 use Prim.Native.Nat.{◌-◌, ◌≤◌}
 use mathlib.Core.Path.{◌≡◌}
-use native.Mathlib.Omega.{arith}
-use borrow.Author.Rules.{rules}
 use Rattle.quotes.specs.States.{bucket_in}
-use Rattle.quotes.proofs.Levels.{begins-at-zero, begins-next}
 use Rattle.quotes.proofs.inner.mirror_of.Given as goal
 
 abbrev pub invariant-loop-first : goal.invariant-loop-first

@@ -1,8 +1,4 @@
-use Prim.Native.Nat.{◌-◌}
-use mathlib.Core.Path.{◌≡◌, refl, sym, ◌∙◌}
-use native.Mathlib.Omega.{arith}
-use lib.ListN.{drop}
-use Rattle.recording.specs.Recording.{quotes_of, sorted_from, sorted}
+use mathlib.Core.Path.{sym, ◌∙◌}
 use Rattle.recording.proofs.Recordings.{sorted-step, sorted-stop, sorted-end}
 use Rattle.recording.proofs.inner.is_sorted.Goals as goal
 

@@ -2,11 +2,9 @@
 -- not before the time `last`. The measure is n less i. A time not below `last` takes the invariant on (`sorted-step`). The ways out: a time below `last`
 -- (`sorted-stop`), and the quotes are used up (`sorted-end`).
 use Prim.Native.Nat.{◌-◌}
-use mathlib.Core.Path.{◌≡◌, refl, sym, ◌∙◌}
-use native.Mathlib.Omega.{arith}
+use mathlib.Core.Path.{◌≡◌}
 use lib.ListN.{drop}
 use Rattle.recording.specs.Recording.{quotes_of, sorted_from, sorted}
-use Rattle.recording.proofs.Recordings.{sorted-step, sorted-stop, sorted-end}
 use Rattle.recording.proofs.inner.is_sorted.Given as goal
 
 abbrev pub invariant-loop-i : goal.invariant-loop-i

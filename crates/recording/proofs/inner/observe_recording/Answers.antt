@@ -1,9 +1,4 @@
-use Prim.Native.Nat.{◌-◌}
-use mathlib.Core.Path.{◌∙◌}
-use native.Mathlib.Omega.{arith}
-use borrow.Author.Rules.{rules}
-use Rattle.calibrator.specs.Record.{memory}
-use Rattle.recording.proofs.Runs.{Observing, observing-uneven, observing-start, observing-few, observing-on, observing-stop, observing-end}
+use Rattle.recording.proofs.Runs.{observing-on, observing-stop, observing-end}
 use Rattle.recording.proofs.inner.observe_recording.Goals as goal
 
 pub returns-then-is_stop : goal.returns-then-is_stop

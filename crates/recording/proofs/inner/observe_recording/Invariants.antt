@@ -3,11 +3,8 @@
 -- `observing-on`). The measure is n less i. The ways out: words that are no multiple of five (`observing-uneven`), a quote stops it (`observing-stop`), the
 -- quotes are used up (`observing-end`).
 use Prim.Native.Nat.{◌-◌}
-use mathlib.Core.Path.{◌∙◌}
-use native.Mathlib.Omega.{arith}
-use borrow.Author.Rules.{rules}
 use Rattle.calibrator.specs.Record.{memory}
-use Rattle.recording.proofs.Runs.{Observing, observing-uneven, observing-start, observing-few, observing-on, observing-stop, observing-end}
+use Rattle.recording.proofs.Runs.{Observing}
 use Rattle.recording.proofs.inner.observe_recording.Given as goal
 
 abbrev pub invariant-loop-i : goal.invariant-loop-i

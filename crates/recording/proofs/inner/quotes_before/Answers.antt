@@ -1,7 +1,5 @@
-use Prim.Native.Nat.{◌+◌, ◌/◌, ◌-◌, ◌≤◌}
+use Prim.Native.Nat.{◌+◌, ◌/◌, ◌-◌}
 use native.Mathlib.Omega.{arith}
-use lib.ListN.{length}
-use Rattle.basics.specs.Lists.{count}
 use Rattle.recording.specs.Recording.{quotes_of}
 use Rattle.recording.specs.Window.{before}
 use Rattle.recording.proofs.Recordings.{quotes-length}
@@ -13,16 +11,16 @@ loop-low-init c = omega (arith, count_most (before c.args.time) (quotes_of c.arg
 
 pub loop-low-preserved-then-recording-middle : goal.loop-low-preserved-then-recording-middle
 loop-low-preserved-then-recording-middle c = (
-      before-past c.args.recording.now c.args.time (c.loop-low.low + (c.loop-low.high - c.loop-low.low) / 2) c.requires
-          (omega arith) c.if-recording-middle.true,
-      omega arith,
-      omega arith,
-    )
+  before-past c.args.recording.now c.args.time (c.loop-low.low + (c.loop-low.high - c.loop-low.low) / 2) c.requires
+      (omega arith) c.if-recording-middle.true,
+  omega arith,
+  omega arith,
+)
 
 pub loop-low-preserved : goal.loop-low-preserved
 loop-low-preserved c = (
-      omega arith,
-      before-most c.args.recording.now c.args.time (c.loop-low.low + (c.loop-low.high - c.loop-low.low) / 2) c.requires
-          (omega arith) c.if-recording-middle.false,
-      omega arith,
-    )
+  omega arith,
+  before-most c.args.recording.now c.args.time (c.loop-low.low + (c.loop-low.high - c.loop-low.low) / 2) c.requires
+      (omega arith) c.if-recording-middle.false,
+  omega arith,
+)
