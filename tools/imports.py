@@ -31,7 +31,7 @@ def cleaned(text):
     return "\n".join(o if isinstance(o, str) else f"{o[0]}{o[1]}.{{{', '.join(kept[o])}}}{o[2]}" for o in out if isinstance(o, str) or kept[o])
 
 def main():
-    files = [a for a in sys.argv[1:] if a != "--dry"] or sorted(glob.glob("crates/**/*.antt", recursive=True) + glob.glob("crates/**/*.rt", recursive=True))
+    files = [a for a in sys.argv[1:] if a != "--dry"] or sorted(f for end in ("antt", "rt") for f in glob.glob(f"crates/**/*.{end}", recursive=True) if "/out/" not in f)
     for f in files:
         old = open(f).read()
         new = cleaned(old)
