@@ -1,5 +1,5 @@
--- `cases_shared::reading::read_full` meets its contract. Invariant: what is read lies within the buffer, which is as long as it was. The measure is what is left
--- of the buffer: a round that goes on has read a byte or more, and no more than is left.
+-- `cases_shared::reading::read_full` meets its contract. Invariant: what is read lies within the buffer, which is as long as it was. The measure is what is
+-- left of the buffer: a round that goes on has read a byte or more, and no more than is left.
 use Rattle.std.proofs.Common.{◌≡◌, ◌-◌, ◌≤◌, length}
 use Rattle.cases_shared.proofs.reading.read_full.Given as goal
 
