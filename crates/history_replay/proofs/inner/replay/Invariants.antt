@@ -14,7 +14,7 @@ invariant-loop-k l =
     let o = l.initial in
     (length l.stay ≡ length o.stay) × (length l.moved ≡ length o.moved) × (length l.move_half_ticks ≡ length o.move_half_ticks)
     × Replaying l.config l.calls (site o.next o.stay o.moved o.move_half_ticks o.room) o.answers
-        l.k (site l.next l.stay l.moved l.move_half_ticks l.room) l.answers
+    l.k (site l.next l.stay l.moved l.move_half_ticks l.room) l.answers
 
 abbrev pub decreases-loop-k : goal.decreases-loop-k
 decreases-loop-k l =

@@ -11,6 +11,6 @@ pub returns : goal.returns
 returns c =
     let a = c.args in
     let w : Writable newest a.config a.stay.now a.moved.now a.move_half_ticks.now a.out.now =
-        record { sizes = lengths-known _ _ _ _ c.requires.1; long = c.requires.2 } in
+    record { sizes = lengths-known _ _ _ _ c.requires.1; long = c.requires.2 } in
     image-written w (omega arith) a.rec c.cell_count-cells.ensures.0 c.header_words-h.ensures
     c.put_table.ensures c.put_table-2.ensures c.put_table-3.ensures c.put_totals.ensures
