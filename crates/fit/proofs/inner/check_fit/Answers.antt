@@ -2,10 +2,7 @@
 -- then 6, 9, 10 and 11. No loop. Three ways out, each by what the calls before it answered. Where `check_table_lengths` is fine, the configuration is valid and
 -- the tables have their lengths (`tables-known`), as the callees ask.
 use mathlib.Core.Path.{sym, ◌∙◌}
-use lib.ListN.{length}
-use Rattle.config.specs.Configuration.{states}
-use Rattle.config.specs.Inner.{Valid}
-use Rattle.calibrator.proofs.Lengths.{RightLengths, tables-known, lengths-known}
+use Rattle.calibrator.proofs.Lengths.{tables-known, lengths-known}
 use Rattle.fit.proofs.inner.check_fit.Goals as goal
 
 pub check_mirrored_counts-requires : goal.check_mirrored_counts-requires

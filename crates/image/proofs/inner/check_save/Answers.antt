@@ -1,12 +1,7 @@
 -- `image::inner::check_save` meets its contract, refusals in the order of document 01: the configuration and the tables' lengths (1, 7), the output's length
 -- (7), the last quote (8), the counts (6, 9 to 11). Each way out rewrites the answers and tests before it. Past the first test the configuration is valid and
 -- the tables have its lengths (`tables-known`), which is what the callees ask.
-use mathlib.Core.Path.{◌≡◌, sym, ◌∙◌}
-use mathlib.Core.Bool.{false}
-use lib.ListN.{length}
-use Rattle.config.specs.Configuration.{states}
-use Rattle.config.specs.Inner.{Valid}
-use Rattle.calibrator.specs.Observe.{wrong_lengths}
+use mathlib.Core.Path.{sym, ◌∙◌}
 use Rattle.calibrator.proofs.Lengths.{tables-known, lengths-known}
 use Rattle.image.proofs.inner.check_save.Goals as goal
 
