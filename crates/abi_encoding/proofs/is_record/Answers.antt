@@ -2,8 +2,7 @@
 -- has ten (`no_record`); word 0 is 1, and any quote may follow (`record-quoted`); any other word 0 stands for no last quote, whose six words are 0
 -- (`record-nothing`).
 use mathlib.Core.Path.{sym}
-use Rattle.abi_encoding.proofs.Laws.{no_record, record-quoted, record-nothing}
-use borrow.Author.Rules.{rules}
+use Rattle.abi_encoding.proofs.Laws.{no_record, record-nothing}
 use Rattle.abi_encoding.proofs.is_record.Goals as goal
 
 pub returns-then-w-ne-RECORD_WORDS : goal.returns-then-w-ne-RECORD_WORDS
