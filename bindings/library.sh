@@ -7,11 +7,12 @@ cd "$(dirname "$0")/.."
 archive=target/staticlib/libmicro_price.a
 stamp=target/staticlib/libmicro_price.sum
 
-# A sum of the toolchain, of this script, of the crates without their edits, and of the archive.
+# A sum of the toolchain, of this script, of the crates without their edits and without what rt keeps beside them, and of the archive.
 sum() {
     {
         rt version
-        find crates.txt bindings/library.sh "$archive" crates -name must-fail -prune -o -type f -exec sha256sum {} + | LC_ALL=C sort
+        find crates.txt bindings/library.sh "$archive" crates \( -name must-fail -o -name out \) -prune -o -type f -exec sha256sum {} + |
+            LC_ALL=C sort
     } | sha256sum
 }
 
@@ -21,21 +22,19 @@ if [ -f "$archive" ] && [ -f "$stamp" ] && [ "$(sum)" = "$(cat "$stamp")" ]; the
 fi
 
 rm -f "$archive" "$stamp"
-for part in abi_counting abi_image abi_fit abi_models abi_batch; do
-    rt staticlib "$part"
+mkdir -p target/staticlib
+for part in abi_counting_c abi_image_c abi_fit_c abi_models_c abi_batch_c; do
+    (cd "crates/$part" && rt lib --cpu x86-64)
 done
-(
-    cd target/staticlib
-    ar -M <<'MRI'
-create libmicro_price.a
-addlib libabi_counting.a
-addlib libabi_image.a
-addlib libabi_fit.a
-addlib libabi_models.a
-addlib libabi_batch.a
+ar -M <<MRI
+create $archive
+addlib crates/abi_counting_c/out/libabi_counting_c.a
+addlib crates/abi_image_c/out/libabi_image_c.a
+addlib crates/abi_fit_c/out/libabi_fit_c.a
+addlib crates/abi_models_c/out/libabi_models_c.a
+addlib crates/abi_batch_c/out/libabi_batch_c.a
 save
 end
 MRI
-)
 sum >"$stamp"
 echo "$archive is written"

@@ -9,7 +9,6 @@ use borrow.Author.Tests.{eq-eqb}
 use Rattle.basics.proofs.Lists.{tab-get_d}
 use Rattle.refusals.specs.Refusals.{number_of, row_or}
 use Rattle.refusals.specs.declared.Check.{Check}
-use Rattle.refusals.specs.declared.Check.TheVariants as Check
 use Rattle.refusals.specs.declared.Refusal.{Refusal}
 use Rattle.config.specs.declared.MicroPriceConfig.{MicroPriceConfig}
 use Rattle.quotes.specs.declared.TopOfBook.{TopOfBook}
@@ -20,7 +19,6 @@ use Rattle.model_check.specs.Check.{check_model}
 use Rattle.model_signals.specs.Signal.{signal_of}
 use Rattle.model_signals.specs.declared.MicroPriceSignal.{MicroPriceSignal}
 use Rattle.model_signals.specs.declared.Signalled.{Signalled}
-use Rattle.model_signals.specs.declared.Signalled.TheVariants as Signalled
 use Rattle.abi_models.specs.Models.{lent_row, of_check, check_model_words, lent_signal, signal_length, sent_words, of_signalled, signal_words}
 
 -- ---- the leaves

@@ -4,7 +4,6 @@ use Rattle.std.specs.Prelude.{ℕ, cond, ◌&&◌, List, [], ◌∷◌, eqb, len
 use Rattle.floats.specs.Floats.{bits_of}
 use Rattle.refusals.specs.Refusals.{number_of, row_or}
 use Rattle.refusals.specs.declared.Check.{Check}
-use Rattle.refusals.specs.declared.Check.TheVariants as Check
 use Rattle.quotes.specs.declared.TopOfBook.{TopOfBook}
 use Rattle.config.specs.Configuration.{is_config, config_of}
 use Rattle.abi_encoding.specs.Encoding.{bad_encoding}
@@ -12,7 +11,6 @@ use Rattle.model_check.specs.Check.{check_model}
 use Rattle.model_signals.specs.Signal.{source_number, signal_of}
 use Rattle.model_signals.specs.declared.MicroPriceSignal.{MicroPriceSignal}
 use Rattle.model_signals.specs.declared.Signalled.{Signalled}
-use Rattle.model_signals.specs.declared.Signalled.TheVariants as Signalled
 
 -- ---- the model check: document 01, "Model and signal"
 
