@@ -45,6 +45,11 @@ run() {
     printf '%-22s %5d s  %s\n' "$name" $(($(date +%s) - began)) "$answer"
 }
 
+# Proves the evening program, leaves it in out/, and runs it on its example.
+evening_main() (
+    cd crates/evening_main && rt run <stdin | cmp - stdout
+)
+
 bindings() (
     cd bindings/rust && cargo test --offline && cargo run --offline --example day
 )
@@ -55,7 +60,7 @@ linear_bits() {
 }
 
 run library bindings/library.sh
-run evening_main rt check evening_main
+run evening_main evening_main
 test_of header tests/header/run.sh
 test_of header_can_fail tests/header/can_fail.sh
 test_of environment tests/environment/run.sh

@@ -14,7 +14,7 @@ copy() {
     rm -rf "$work/tree"
     mkdir -p "$work/tree"
     # shellcheck disable=SC2086
-    (cd "$root" && tar cf - $files) | (cd "$work/tree" && tar xf -)
+    (cd "$root" && tar cf - --exclude=out $files) | (cd "$work/tree" && tar xf -)
 }
 
 # change FILE OLD NEW: replaces OLD, which stands there once, in the copy.

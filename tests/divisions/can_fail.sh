@@ -15,7 +15,7 @@ refused_archive() {
     must_fail "$1" python3 "$here/instructions.py" "$2" "$3"
 }
 
-# The mirror by a remainder, as it was before Q-4, in the copy.
+# The mirror by a remainder, as it was before Q-4, in the copy. It is proved without a file of its own.
 by_remainder() {
     copy
     change $inner '    let mut first: usize = 0;
@@ -24,7 +24,7 @@ by_remainder() {
     }
     mirror_in(w, first, state)' '    let bucket = state % w;
     state - bucket + (w - 1 - bucket)'
-    cp "$here/by_remainder.antt.txt" "$work/tree/crates/quotes/proofs/inner/mirror_of/Proof.antt"
+    rm -r "$work/tree/crates/quotes/proofs/inner/mirror_of"
 }
 
 passes

@@ -9,15 +9,15 @@ trap 'rm -rf "$work"' EXIT
 below="basics refusals config quotes"
 
 # shellcheck disable=SC2086
-(cd "$tree/crates" && tar cf - $below) | (mkdir "$work/crates" && cd "$work/crates" && tar xf -)
+(cd "$tree/crates" && tar cf - --exclude=out $below) | (mkdir "$work/crates" && cd "$work/crates" && tar xf -)
 mkdir -p "$work/crates/mirror_number/src"
 cp "$here/mirror_number.rt.txt" "$work/crates/mirror_number/src/lib.rt"
 for crate in $below; do
     grep "^$crate:" "$tree/crates.txt"
 done >"$work/crates.txt"
-echo "mirror_number: config quotes" >>"$work/crates.txt"
-(cd "$work" && rt staticlib mirror_number) >"$work/said" 2>&1 || { cat "$work/said" >&2 && exit 1; }
-archive=$work/target/staticlib/libmirror_number.a
+echo "mirror_number staticlib: config quotes" >>"$work/crates.txt"
+(cd "$work/crates/mirror_number" && rt lib --cpu x86-64) >"$work/said" 2>&1 || { cat "$work/said" >&2 && exit 1; }
+archive=$work/crates/mirror_number/out/libmirror_number.a
 
 echo "mirror_number 0" >"$work/table"
 python3 "$here/instructions.py" "$archive" "$work/table"

@@ -1,7 +1,7 @@
 #!/usr/bin/env python3
 """run.py [PROGRAM]
 
-Runs the evening program, target/bin/evening_main or PROGRAM, as a desk would: on standard input, through a pipe. Gives it each text of
+Runs the evening program, crates/evening_main/out/evening_main or PROGRAM, as a desk would: on standard input, through a pipe. Gives it each text of
 tests/comparison/evening_cases.txt, whose form tests/comparison/README.md describes, and holds what it prints to what
 crates/cases_evening/stdout has for that case. Then input that comes a byte at a time, input far longer than any text, an input without
 end, and a standard input that cannot be read. Prints each mismatch and ends with status 1 if there is one.
@@ -69,7 +69,7 @@ def said_unread(program):
 
 
 def main():
-    program = sys.argv[1] if len(sys.argv) > 1 else str(ROOT / "target/bin/evening_main")
+    program = sys.argv[1] if len(sys.argv) > 1 else str(ROOT / "crates/evening_main/out/evening_main")
     wanted, cases = expected(), dict(texts())
     missed = [f"{name}: no such case" for name in sorted(wanted.keys() ^ cases.keys())]
     for name, text in cases.items():

@@ -54,7 +54,7 @@ refused "a refusal with another's number" $header \
     'MICRO_PRICE_OFF_TICK 4' 'MICRO_PRICE_OFF_TICK 5'
 refused "a header that needs another before it" $header \
     '#include <stdint.h>' ''
-refused "a parameter more in the code" crates/abi_counting/src/lib.rt \
+refused "a parameter more in the code" crates/abi_counting_c/src/lib.rt \
     'pub extern "C" fn micro_price_validate(config: &[u64])' 'pub extern "C" fn micro_price_validate(config: &[u64], n: u64)'
 refused "totals without a sign in Rust" $rust \
     'move_half_ticks: *const i64,

@@ -2,7 +2,7 @@
 """signatures.py TREE ARCHIVE
 
 Holds the functions that TREE/include/micro_price.h declares against the symbols that ARCHIVE exports, and their parameters
-against crates/abi_*, where they are written, and against bindings/rust/src/sys.rs, where Rust declares them. Holds the
+against crates/abi_*_c, which export them, and against bindings/rust/src/sys.rs, where Rust declares them. Holds the
 header's numbers against the crates that have them, against the constants of sys.rs, and its defaults against those of
 config.rs beside it. Prints each mismatch and ends with status 1 if there is one.
 """
@@ -167,10 +167,10 @@ def main():
     tree, archive = Path(sys.argv[1]), sys.argv[2]
     text = (tree / "include/micro_price.h").read_text()
     header = in_header(text)
-    code = "\n".join(file.read_text() for file in sorted((tree / "crates").glob("abi_*/src/*.rt")))
+    code = "\n".join(file.read_text() for file in sorted((tree / "crates").glob("abi_*_c/src/*.rt")))
     rust = (tree / "bindings/rust/src/sys.rs").read_text()
     defaults = constants((tree / "bindings/rust/src/config.rs").read_text())
-    found = list(differences(header, declared(code, r'pub\s+extern\s+"C"\s+', c_parameters), "crates/abi_*"))
+    found = list(differences(header, declared(code, r'pub\s+extern\s+"C"\s+', c_parameters), "crates/abi_*_c"))
     found += differences(header, declared(rust, r"pub\s+", rust_parameters), "bindings/rust/src/sys.rs")
     symbols = exported(archive)
     found += [f"{name} is declared and the archive does not export it" for name in sorted(header.keys() - symbols)]
@@ -183,7 +183,7 @@ def main():
         print(f"header: {line}", file=sys.stderr)
     if found or not header:
         sys.exit(1)
-    print(f"header: {len(header)} functions are those of crates/abi_*, of bindings/rust and of the archive")
+    print(f"header: {len(header)} functions are those of crates/abi_*_c, of bindings/rust and of the archive")
 
 
 if __name__ == "__main__":
