@@ -1,7 +1,7 @@
 #!/bin/sh
 # Proves the functions of include/micro_price.h and writes them as one archive, target/staticlib/libmicro_price.a. If the archive is
 # there and neither it, nor the crates, nor the toolchain has changed since, it does nothing. It needs rt and ar. The parts are
-# compiled apart: crates/abi_batch says why.
+# compiled apart, for which crates/abi_batch says why, and for every x86-64 processor.
 set -eu
 cd "$(dirname "$0")/.."
 archive=target/staticlib/libmicro_price.a
