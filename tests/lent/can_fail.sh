@@ -51,8 +51,8 @@ prints_else lent "replay answers that it is done to all" crates/history_replay/s
     Replayed::Done"
 prints_else lent "the core of observe counts a pair twice" crates/calibrator/src/inner.rt "counters.pairs + 1" "counters.pairs + 2"
 prints_else by_value "the program by value keeps the record after a restore" tests/lent/by_value.rt.txt \
-    "shared::show_restored(done.answer);
-    done.next" "shared::show_restored(done.answer);
+    "shared::show_restored(rt, done.answer);
+    done.next" "shared::show_restored(rt, done.answer);
     rec"
 prints_else lent "day.txt has another last bit in a float of the model table" tests/lent/day.txt \
     "bff0000000000000 3ff0000000000000 0" "bff0000000000001 3ff0000000000000 0"
