@@ -37,9 +37,9 @@ refused "set, which sets nothing" $env '    micro_price_env_restore(MICRO_PRICE_
 refused "set, which answers what it has set" $env 'return was;' 'return MICRO_PRICE_ENV_WORD;'
 refused "restore, which puts nothing back" $env '("ldmxcsr %0" : : "m"(was) : "memory")' '("" : : "m"(was) : "memory")'
 refused "no word of other machines" $env '#error "micro_price_env.h sets the control word of x86-64"' ''
-refused "less stack than is used" $header 'micro_price_calibrate     6928' 'micro_price_calibrate     6920'
-refused "more than twice the stack" $header 'micro_price_observe       208' 'micro_price_observe       420'
-refused "a function without its stack" $header ' *   micro_price_new           80
+refused "less stack than is used" $header 'micro_price_calibrate     11008' 'micro_price_calibrate     11000'
+refused "more than twice the stack" $header 'micro_price_observe       264' 'micro_price_observe       530'
+refused "a function without its stack" $header ' *   micro_price_new           112
 ' ''
 
 refused_names "a float instruction in observe" micro_price_observe micro_price_calibrate
