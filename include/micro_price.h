@@ -19,16 +19,16 @@
  *
  * Stack, in bytes, that calls with N = 255 were seen to take; tests/environment measures it on a painted stack:
  *   micro_price_validate      16
- *   micro_price_new           112
- *   micro_price_observe       264
- *   micro_price_save          6672
- *   micro_price_restore       6896
- *   micro_price_fit_counts    4496
- *   micro_price_check_model   112
- *   micro_price_signal        128
- *   micro_price_window_of     40
- *   micro_price_calibrate     11008
- *   micro_price_replay        7600
+ *   micro_price_new           128
+ *   micro_price_observe       240
+ *   micro_price_save          2352
+ *   micro_price_restore       2352
+ *   micro_price_fit_counts    4584
+ *   micro_price_check_model   104
+ *   micro_price_signal        160
+ *   micro_price_window_of     48
+ *   micro_price_calibrate     13120
+ *   micro_price_replay        7152
  *
  * Words:
  *   config   5: tick, imbalance buckets n, spread states s, least observations, largest gap in ms. N = n * s states.

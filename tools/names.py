@@ -21,6 +21,9 @@ TOKEN = re.compile(r"(?<![^\s()\[\]{},;«»])[^\s()\[\]{},;.«»]+")
 IMPORT = re.compile(r"use Rattle\.(\w+)\.specs\.(\w+)(?:\.\{([^}]*)\}| as (\w+))")
 FUNCTION = re.compile(r'^( *)(?:pub )?(?:extern "C" )?fn (\w+)[^(]*\(', re.M)
 
+def is_inner(module):
+    return module.startswith("Inner")
+
 def without_comments(text):
     return "\n".join(re.sub(r"(^|\s)(--|//).*$", "", line) for line in text.split("\n"))
 
@@ -70,11 +73,11 @@ def twice():
 
 def resting():
     for path, (_, module), text in specs():
-        if module != "Inner" and path not in RESTS and any(m == "Inner" for _, m, _, _ in IMPORT.findall(text)):
+        if not is_inner(module) and path not in RESTS and any(is_inner(m) for _, m, _, _ in IMPORT.findall(text)):
             yield f"{path} takes a name from an Inner"
     for function, text, (names, modules) in contracts():
         for crate, module, name in sorted(needs(text, names, modules)):
-            if module == "Inner": yield f"the contract of {function} takes {name} from the Inner of {crate}"
+            if is_inner(module): yield f"the contract of {function} takes {name} from the Inner of {crate}"
 
 def contracts():
     """(function, its contract, the sources of its file), of each contract that a reader meets."""
@@ -91,8 +94,11 @@ def heads(text):
         while depth:
             depth += {"(": 1, ")": -1}.get(text[end], 0)
             end += 1
-        if text[end:text.index("\n", end)].endswith(("{", "}", ";")): continue
-        yield m[2], text[m.start():text.index(f"\n{m[1]}{{\n", end)]
+        rest = text[end:text.index("\n", end)]
+        if rest.endswith(("{", "}", ";")): continue
+        # A function of a trait has no body: its contract ends with a `;`.
+        past = re.compile(rf"\n{m[1]}\{{\n|;\n").search(text, end)
+        yield m[2], text[m.start():past.start()]
 
 def statements():
     """The text of each theorem that docs/PROMISES.md names, with the sources of its file."""
@@ -124,7 +130,7 @@ def unneeded():
         reached.add(d)
         waiting |= needs(texts[d], *where[d], here=d[:2])
     for crate, module, name in sorted(texts):
-        if module != "Inner" and (crate, module, name) not in reached: yield f"{name} of crates/{crate}/specs/{module}.antt is needed by nothing believed"
+        if not is_inner(module) and (crate, module, name) not in reached: yield f"{name} of crates/{crate}/specs/{module}.antt is needed by nothing believed"
 
 found = [*twice(), *resting(), *unneeded()]
 print("\n".join(found), end="\n" if found else "")

@@ -1,51 +1,24 @@
--- From what the evening and the replay answer to what the exported operations leave.
+-- From what the replay answers to what the exported operation leaves.
 use Prim.Native.Nat.{ℕ}
 use mathlib.Core.Path.{◌≡◌, refl, sym, ◌∙◌, ap, transport}
 use mathlib.Core.Bool.{Bool, true, false, cond}
 use mathlib.Core.List.{List}
-use lib.Ieee.{Float}
 use lib.IntN.{ℤ}
 use lib.ListN.{length}
-use Rattle.basics.proofs.Tests.{zero-not-one}
+use Rattle.tally.specs.Entries.{tables}
 use Rattle.config.specs.declared.MicroPriceConfig.{MicroPriceConfig}
-use Rattle.calibrator.specs.Record.{memory}
 use Rattle.calibrator.specs.declared.Record.{Record}
-use Rattle.history_replay.specs.Replay.{site, well_coded, calls_from, Replay, replay, replay_run, Promised}
-use Rattle.history_replay.specs.declared.Replayed.{Replayed}
-use Rattle.history_replay.specs.declared.Replayed.TheVariants.{Done, BadEncoding}
-use Rattle.evening.specs.Evening.{EveningOutcome, calibrated}
+use Rattle.history_replay.specs.Replay.{badly_coded, site, well_coded, calls_from, Replay, replay, replay_run, Promised}
+use Rattle.std.specs.Prelude.{Result, Ok, Err, ⊤}
+use Rattle.history_replay.specs.declared.BadEncoding.{BadEncoding}
 use Rattle.config.specs.Configuration.{config_of}
 use Rattle.abi_encoding.specs.Encoding.{record_words_of, record_of, encoded, bad_encoding, lent}
-use Rattle.abi_encoding.proofs.Laws.{chosen, Long, Encoded, operation-words}
-use Rattle.abi_batch.specs.Batch.{lent_evening, evening_number, invalid_after, record_after_evening, of_evening, calibrate_words, LentReplay, lent_replay, replayed_number, record_after_replay, of_replay, replay_words, PromisedWords}
-
--- ---- the evening
-
--- words of the right lengths, with the record and the configuration of them
-module _ (c w s m : List ℕ) (t : List ℤ) (k : Long c w) {r : Record} (record_is : r ≡ record_of w) {d : MicroPriceConfig} (decoded : d ≡ config_of c) where
-  pub evening-words : (recording : List ℕ) (start end : ℕ) (model : List ℕ) (scratch : List Float) (invalid : ℕ)
-      {o : EveningOutcome} → o ≡ calibrated d (memory r s m t) recording start end model scratch
-      → {w' : List ℕ} → w' ≡ record_after_evening o.answer w o.left
-      → {n invalid' : ℕ} → (n ≡ evening_number o.answer) × (invalid' ≡ invalid_after o.answer invalid)
-      → lent_evening n w' o.left.counts.tables.stay o.left.counts.tables.moved o.left.counts.tables.totals o.model o.scratch invalid'
-      ≡ calibrate_words c w s m t recording start end model scratch invalid
-  evening-words recording start end model scratch invalid {o} done written put =
-      operation-words c w s m t k record_is decoded (λ d m. calibrated d m recording start end model scratch) (of_evening w invalid) done
-      (λ j. lent_evening (put.0 j) (written j) o.left.counts.tables.stay o.left.counts.tables.moved o.left.counts.tables.totals o.model
-      o.scratch (put.1 j))
-      (lent_evening bad_encoding w s m t model scratch invalid)
-
--- ---- the replay
-
--- words that are not encoded
-pub replay-refused : (c w s m : List ℕ) (t : List ℤ) (calls room numbers : List ℕ) → encoded c w ≡ false
-    → PromisedWords c w s m t calls room numbers (lent_replay numbers room (lent bad_encoding w s m t))
-replay-refused c w s m t calls room numbers e =
-    record { run_is = rw e; history-is = λ h own. absurd (zero-not-one cc) }
+use Rattle.abi_encoding.proofs.Laws.{chosen, Encoded}
+use Rattle.abi_batch.specs.Batch.{LentReplay, lent_replay, replayed_number, record_after_replay, of_replay, replay_words, PromisedWords}
 
 -- words that are encoded, with the record and the configuration of them, and what a replay promises of these
 module _ (c w s m : List ℕ) (t : List ℤ) (k : Encoded c w) {r : Record} (record_is : r ≡ record_of w) {d : MicroPriceConfig} (decoded : d ≡ config_of c)
-    (calls room numbers : List ℕ) (x : Replay) (promised : Promised d (site r s m t room) calls numbers x) where
+    (calls room numbers : List ℕ) (x : Replay) (promised : Promised d (site r (tables s m t) room) calls numbers x) where
   -- the exported replay with the number n and the record's words w'
   abbrev leaves : ℕ → List ℕ → LentReplay
   leaves n w' =
@@ -55,25 +28,21 @@ module _ (c w s m : List ℕ) (t : List ℤ) (k : Encoded c w) {r : Record} (rec
   replay-words : {w' : List ℕ} → w' ≡ record_after_replay x.answer w x.after.memory → {n : ℕ} → n ≡ replayed_number x.answer
       → PromisedWords c w s m t calls room numbers (leaves n w')
   replay-words {w'} written {n} number =
-      let p : Promised (config_of c) (site (record_of w) s m t room) calls numbers x =
-      transport (λ j. Promised (decoded j) (site (record_is j) s m t room) calls numbers x) promised in
+      let p : Promised (config_of c) (site (record_of w) (tables s m t) room) calls numbers x =
+      transport (λ j. Promised (decoded j) (site (record_is j) (tables s m t) room) calls numbers x) promised in
       let same : leaves n w' ≡ of_replay w x = (λ j. leaves (number j) (written j)) in
       record {
         run_is = same ∙ ap (of_replay w) p.run_is ∙ chosen _ k.is;
         history-is = λ _ own. same ∙ ap (of_replay w) (p.history-is own);
       }
 
-  -- a bad encoding: the record's words are not written
-  pub replay-uncoded : x.answer ≡ BadEncoding → PromisedWords c w s m t calls room numbers (leaves bad_encoding w)
-  replay-uncoded bad = replay-words (sym (ap (λ (a : Replayed). record_after_replay a w x.after.memory) bad)) (sym (ap replayed_number bad))
-
-  pub replay-ran : x.answer ≡ Done → {w' : List ℕ} → w' ≡ record_words_of x.after.memory → PromisedWords c w s m t calls room numbers (leaves 0 w')
+  pub replay-ran : x.answer ≡ Ok tt → {w' : List ℕ} → w' ≡ record_words_of x.after.memory → PromisedWords c w s m t calls room numbers (leaves 0 w')
   replay-ran done written =
-      replay-words (written ∙ sym (ap (λ (a : Replayed). record_after_replay a w x.after.memory) done)) (sym (ap replayed_number done))
+      replay-words (written ∙ sym (ap (λ (a : Result ⊤ BadEncoding). record_after_replay a w x.after.memory) done)) (sym (ap replayed_number done))
 
 module _ (w s m : List ℕ) (t : List ℤ) where
-  replay-kept : (room numbers : List ℕ) (b i : Bool) (ran : Replay) → ran.answer ≡ Done
-      → let x = cond b (of_replay w (cond i ran (replay BadEncoding numbers (site (record_of w) s m t room))))
+  replay-kept : (room numbers : List ℕ) (b i : Bool) (ran : Replay) → ran.answer ≡ Ok tt
+      → let x = cond b (of_replay w (cond i ran (replay (Err badly_coded) numbers (site (record_of w) (tables s m t) room))))
       (lent_replay numbers room (lent bad_encoding w s m t)) in (x.rest.answer ≡ 0 → ⊥) → x ≡ lent_replay numbers room (lent x.rest.answer w s m t)
   replay-kept room numbers false i ran d h = refl
   replay-kept room numbers true true ran d h = absurd (h (ap replayed_number d))
@@ -84,7 +53,7 @@ module _ (c w s m : List ℕ) (t : List ℤ) where
   pub replay-unchanged : (calls room numbers : List ℕ) → ((replay_words c w s m t calls room numbers).rest.answer ≡ 0 → ⊥)
       → replay_words c w s m t calls room numbers ≡ lent_replay numbers room (lent (replay_words c w s m t calls room numbers).rest.answer w s m t)
   replay-unchanged calls room numbers =
-      let x = site (record_of w) s m t room in
+      let x = site (record_of w) (tables s m t) room in
       let d = config_of c in
       replay-kept w s m t room numbers (encoded c w) (well_coded (length room) (length numbers) calls)
       (replay_run d x calls (calls_from d calls 0 (length numbers) x)) refl

@@ -9,38 +9,35 @@ ghost use Rattle.abi_batch.specs.Batch.{lent_evening, evening_number, invalid_af
 
 use abi_encoding::BAD_ENCODING;
 use calibrator::Record;
-use evening::Evening;
-use history_replay::Replayed;
+use evening::Counted;
+use refusals::Refusal;
+use tally::LentTables;
 
 // An evening's answer as a number; with a fit's answer the number of invalid quotes is written.
-fn put_invalid(answer: Evening, invalid: &mut u64) -> u64
+fn put_invalid(answer: Result<Counted, Refusal>, invalid: &mut u64) -> u64
     ensures { (result ≡ evening_number answer) × (invalid.new ≡ invalid_after answer invalid.old) }
 {
     match answer {
-        Evening::Fitted(d) => {
-            *invalid = d.invalid;
-            let fitted = d.answer;
-            refusals::check_number(fitted)
+        Ok(counted) => {
+            *invalid = counted.invalid;
+            refusals::check_number(counted.answer)
         }
-        Evening::Refused(r) => refusals::number_of(r),
+        Err(refusal) => refusal.number(),
     }
 }
 
 // Whether quotes were counted: there is a fit's answer, or a quote stopped the count.
-fn has_counted(answer: Evening) -> bool
+fn has_counted(answer: Result<Counted, Refusal>) -> bool
     ensures { result ≡ has_counted answer }
 {
     match answer {
-        Evening::Fitted(_) => true,
-        Evening::Refused(r) => {
-            let n = refusals::number_of(r);
-            (n == 2) | (n == 6)
-        }
+        Ok(_) => true,
+        Err(refusal) => matches!(refusal, Refusal::OverDomain | Refusal::CountLimit),
     }
 }
 
 // Writes the record where quotes were counted. Its caller has as many words.
-fn put_counted(rec: &mut [u64], answer: Evening, next: Record)
+fn put_counted(rec: &mut [u64], answer: Result<Counted, Refusal>, next: Record)
     requires { length rec.old ≡ record_length }
     ensures { rec.new ≡ record_after_evening answer rec.old (memory next [] [] []) }
 {
@@ -71,11 +68,15 @@ pub extern "C" fn micro_price_calibrate(
     if !abi_encoding::right_words(config, rec) {
         return BAD_ENCODING;
     }
-    let done = evening::inner::calibrate_micro_price(
-        abi_encoding::record_of(rec),
+    let mut next = abi_encoding::record_of(rec);
+    let mut tables = LentTables {
         stay,
         moved,
         move_half_ticks,
+    };
+    let answer = evening::calibrate_micro_price(
+        &mut next,
+        &mut tables,
         config::inner::config_of(config),
         recording,
         start,
@@ -83,8 +84,7 @@ pub extern "C" fn micro_price_calibrate(
         scratch,
         model,
     );
-    let answer = done.answer;
-    put_counted(rec, answer, done.next);
+    put_counted(rec, answer, next);
     put_invalid(answer, invalid)
 }
 
@@ -106,23 +106,18 @@ pub extern "C" fn micro_price_replay(
     if !abi_encoding::is_encoded(config, rec) {
         return BAD_ENCODING;
     }
-    let before = abi_encoding::record_of(rec);
-    let ran = history_replay::inner::replay(
-        before,
+    let mut next = abi_encoding::record_of(rec);
+    let config = config::inner::config_of(config);
+    let mut tables = LentTables {
         stay,
         moved,
         move_half_ticks,
-        config::inner::config_of(config),
-        calls,
-        room,
-        answers,
-    );
-    let answer = ran.answer;
-    match answer {
-        Replayed::BadEncoding => BAD_ENCODING,
-        Replayed::Done => {
-            abi_encoding::put_record(rec, ran.next);
+    };
+    match history_replay::replay(&mut next, &mut tables, config, calls, room, answers) {
+        Ok(()) => {
+            abi_encoding::put_record(rec, next);
             0
         }
+        Err(_) => BAD_ENCODING,
     }
 }

@@ -1,4 +1,5 @@
-// The functions of `abi_batch` for callers in C, with its clauses. include/micro_price.h says how they are called. They are apart from those of `abi_counting_c`:
+// The functions of `abi_batch` for callers in C, with its clauses: a static library exports the functions of its own crate alone.
+// include/micro_price.h says how they are called. They are apart from those of `abi_counting_c`:
 // crates/abi_batch says why.
 #![tactic(auto)]
 

@@ -11,22 +11,19 @@ use lib.IntN.{ℤ}
 use borrow.Author.Tests.{eqb-true, ne_eqb}
 use Rattle.basics.specs.Lists.{any}
 use Rattle.basics.proofs.Tests.{fails}
-use Rattle.refusals.specs.Refusals.{number_of, check_number}
-use Rattle.refusals.specs.declared.Check.{Check}
-use Rattle.refusals.specs.declared.Check.TheVariants as Check
+use Rattle.refusals.specs.Refusals.{number_of, check_number, Check}
+use Rattle.std.specs.Prelude.{Result, Ok, Err}
+use Rattle.evening.specs.declared.Counted.{Counted}
 use Rattle.refusals.specs.declared.Refusal.{Refusal}
 use Rattle.config.specs.declared.MicroPriceConfig.{MicroPriceConfig}
 use Rattle.quotes.specs.declared.TopOfBook.{TopOfBook}
 use Rattle.tally.specs.Rules.{Memory}
 use Rattle.image_words.specs.Words.{AllWords}
-use Rattle.calibrator.specs.Record.{memory}
-use Rattle.calibrator.specs.declared.Previous.{Previous}
+use Rattle.calibrator.specs.Record.{memory, Previous}
 use Rattle.config.specs.Configuration.{config_of}
 use Rattle.abi_encoding.specs.Encoding.{record_of, record_words_of, right_words, bad_encoding}
 use Rattle.history.specs.Calls.{ConfigWords}
 use Rattle.evening.specs.Evening.{EveningOutcome, calibrated}
-use Rattle.evening.specs.declared.Evening.{Evening}
-use Rattle.evening.specs.declared.Evening.TheVariants.{Fitted, Refused}
 use Rattle.history_claims.specs.Evening.{window_quotes, EveningHistory}
 use Rattle.history_claims.proofs.Evening.{evening-history}
 use Rattle.abi_batch.specs.Batch.{LentEvening, lent_evening, evening_number, of_evening, calibrate_words}
@@ -44,14 +41,14 @@ module _ (d : MicroPriceConfig) (w s m : List ℕ) (t : List ℤ) (qs : List Top
   abbrev before : Memory Previous
   before = memory (record_of w) s m t
 
-  evening-kept : (o : EveningOutcome) → EveningHistory d before qs model scratch o → (a : Evening) → o.answer ≡ a
+  evening-kept : (o : EveningOutcome) → EveningHistory d before qs model scratch o → (a : Result Counted Refusal) → o.answer ≡ a
       → is_unwritten (evening_number a) ≡ true → of_evening w invalid o ≡ lent_evening (evening_number a) w s m t model scratch invalid
-  evening-kept o E (Fitted k) is u = absurd (true≢false (sym u ∙ go k.answer (E.fitted k is).fit-numbers))
+  evening-kept o E (Ok k) is u = absurd (true≢false (sym u ∙ go k.answer (E.fitted k is).fit-numbers))
     where
-      go : (x : Check) → ((r : Refusal) → x ≡ Check.Refused r → (16 ≤ number_of r) × (number_of r ≤ 19)) → is_unwritten (check_number x) ≡ false
-      go Check.Fine h = refl
-      go (Check.Refused r) h = let b = h r refl in fit-number-written (number_of r) b.0 b.1
-  evening-kept o E (Refused r) is u =
+      go : (x : Check) → ((r : Refusal) → x ≡ Err r → (16 ≤ number_of r) × (number_of r ≤ 19)) → is_unwritten (check_number x) ≡ false
+      go (Ok _) h = refl
+      go (Err r) h = let b = h r refl in fit-number-written (number_of r) b.0 b.1
+  evening-kept o E (Err r) is u =
       let x = E.refused r is in
       let yes : any (eqb (number_of r)) (7 ∷ 14 ∷ 15 ∷ 1 ∷ []) ≡ true =
       (λ j. sym (apart (λ n. any (eqb n) (7 ∷ 14 ∷ 15 ∷ 1 ∷ 2 ∷ 6 ∷ [])) (number_of r) bad_encoding x.number refl) j

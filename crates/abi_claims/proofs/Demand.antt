@@ -10,16 +10,15 @@ use lib.IntN.{ℤ}
 use lib.ListN.{length}
 use borrow.Author.Tests.{not-false, eq-eqb}
 use Rattle.basics.proofs.Tests.{zero-not-one, both}
-use Rattle.refusals.specs.declared.Check.{Check}
-use Rattle.refusals.specs.declared.Check.TheVariants.{Fine, Refused}
+use Rattle.std.specs.Prelude.{Ok, Err}
+use Rattle.refusals.specs.Refusals.{Check}
 use Rattle.refusals.proofs.Numbers.{zero-fine}
 use Rattle.refusals.proofs.Refusals.{if-fine, first_fine}
 use Rattle.config.specs.Configuration.{valid, check_config, is_config, config_of}
 use Rattle.config.specs.declared.MicroPriceConfig.{MicroPriceConfig}
 use Rattle.tally.specs.Rules.{Memory}
-use Rattle.calibrator.specs.Record.{memory, answered}
+use Rattle.calibrator.specs.Record.{memory, answered, Previous}
 use Rattle.calibrator.specs.Observe.{fresh, check_memory}
-use Rattle.calibrator.specs.declared.Previous.{Previous}
 use Rattle.abi_encoding.specs.Encoding.{record_length, record_of, right_words, bad_encoding, lent}
 use Rattle.history.specs.Calls.{new_past, run, OwnImages, ConfigWords}
 use Rattle.history.specs.Demand.{left}
@@ -54,8 +53,8 @@ module _ (c w s m : List ℕ) (t : List ℤ) where
       go : (b : Bool) → right_words c w ≡ b → (k : Check) → check_memory d before ≡ k
           → (cond b (of_outcome w (answered k before (fresh d))) (lent bad_encoding w s m t)).answer ≡ 0 → NewInWords c w s m t
       go false long k enough e = absurd (zero-not-one cc)
-      go true long (Refused r) enough e = let none : Refused r ≡ Fine = zero-fine (Refused r) e in absurd (zero-not-one cc)
-      go true long Fine enough e =
+      go true long (Err r) enough e = let none : Err r ≡ Ok tt = zero-fine (Err r) e in absurd (zero-not-one cc)
+      go true long (Ok _) enough e =
           record {
             config = (both (is_config c) (eqb (length w) record_length) long).0;
             valid-is = not-false _ (if-fine (not (valid d)) 1 refl (first_fine (check_config d) _ enough).0);

@@ -7,16 +7,14 @@ use lib.Dec.{eqb}
 use lib.IntN.{ℤ}
 use lib.ListN.{length, length-set}
 use Rattle.basics.proofs.Tests.{zero-not-one}
-use Rattle.refusals.specs.Refusals.{number_of}
-use Rattle.refusals.specs.declared.Check.{Check}
-use Rattle.refusals.specs.declared.Check.TheVariants.{Fine, Refused}
+use Rattle.refusals.specs.Refusals.{number_of, Check}
+use Rattle.std.specs.Prelude.{Ok, Err}
 use Rattle.refusals.proofs.Numbers.{number-not-zero}
 use Rattle.config.specs.declared.MicroPriceConfig.{MicroPriceConfig}
 use Rattle.tally.specs.Events.{Event, first, skip, pair, Counts, entered}
 use Rattle.tally.specs.Rules.{Memory, step}
-use Rattle.calibrator.specs.Record.{memory, answered}
+use Rattle.calibrator.specs.Record.{memory, answered, Previous}
 use Rattle.calibrator.specs.Observe.{rule, judge, refusal_by, observed}
-use Rattle.calibrator.specs.declared.Previous.{Previous}
 use Rattle.calibrator.proofs.Memories as Memories
 use Rattle.recording.specs.Recording.{filter}
 use Rattle.image.specs.Image.{saved, taken_unless, restored, restore_refusal}
@@ -40,13 +38,13 @@ module _ (d : MicroPriceConfig) where
   kinds-entered (pair i j x) k h = h
 
   kinds-answered : (k : Check) (m n : Memory Previous) → HasKinds m → HasKinds n → HasKinds (answered k m n).left
-  kinds-answered Fine m n a b = b
-  kinds-answered (Refused r) m n a b = a
+  kinds-answered (Ok _) m n a b = b
+  kinds-answered (Err r) m n a b = a
 
   kinds-taken : (k : Check) (b : List ℕ) (m lent : Memory Previous) → HasKinds m
       → HasKinds (after_restore (taken_unless k b lent).answer m (taken_unless k b lent).left)
-  kinds-taken Fine b m lent h = refl
-  kinds-taken (Refused r) b m lent h = h
+  kinds-taken (Ok _) b m lent h = refl
+  kinds-taken (Err r) b m lent h = h
 
   -- every call keeps them
   kinds_kept : (m : Memory Previous) → HasKinds m → (k : Call) → HasKinds (act d m k).left
@@ -98,8 +96,8 @@ module _ (c : List ℕ) (config : is_config c ≡ true) where
         go : (k : Check) → let o = answered k m (step (rule d) m q) in
             ◌≡◌ {A = WordsActed} (record { answer = observe_answer (of_outcome (record_words_of m) o).answer; left = lent_memory (of_outcome (record_words_of m) o) })
             (record { answer = observe_answer (of_outcome (record_words_of m) o).answer; left = memory_in_words o.left })
-        go Fine = refl
-        go (Refused r) = refl
+        go (Ok _) = refl
+        go (Err r) = refl
     act-words (saving out) made =
         λ i.
         record { answer = save_answer (cond (words-encoded i) (of_saved (saved d (memory-from-words i) out)) (lent_out bad_encoding out)); left = memory_in_words m }
@@ -116,9 +114,9 @@ module _ (c : List ℕ) (config : is_config c ≡ true) where
             ◌≡◌ {A = WordsActed}
             (record { answer = restore_answer x.rest.answer x.config; left = cond (eqb x.rest.answer 0) (lent_memory x.rest) (memory_in_words m) })
             (record { answer = restore_answer x.rest.answer x.config; left = memory_in_words (after_restore a.answer m a.left) })
-        go Fine = refl
-        go (Refused r) =
-            let x = of_taken e l.rec (taken_unless (Refused r) b lent') in
+        go (Ok _) = refl
+        go (Err r) =
+            let x = of_taken e l.rec (taken_unless (Err r) b lent') in
             ap (λ (z : Bool). record { answer = restore_answer (number_of r) e; left = cond z (lent_memory x.rest) (memory_in_words m) }) (number-not-zero r)
 
     -- one that is not

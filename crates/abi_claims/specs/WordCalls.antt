@@ -3,8 +3,7 @@ use Rattle.std.specs.Prelude.{ℕ, Bool, true, cond, List, [], ◌∷◌, map, e
 use Rattle.refusals.specs.Refusals.{check_number}
 use Rattle.quotes.specs.declared.TopOfBook.{TopOfBook}
 use Rattle.tally.specs.Rules.{Memory}
-use Rattle.calibrator.specs.Record.{memory}
-use Rattle.calibrator.specs.declared.Previous.{Previous}
+use Rattle.calibrator.specs.Record.{memory, Previous}
 use Rattle.recording.specs.Recording.{filter}
 use Rattle.config.specs.Configuration.{config_of}
 use Rattle.abi_encoding.specs.Encoding.{record_of, record_words_of, right_words, bad_encoding, Lent}

@@ -1,2 +1,1 @@
-pub mod CountingWords
 pub mod Unchanged

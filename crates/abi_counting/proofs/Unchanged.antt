@@ -4,13 +4,12 @@ use mathlib.Core.Path.{◌≡◌, refl}
 use mathlib.Core.Bool.{Bool, true, false, cond}
 use mathlib.Core.List.{List}
 use lib.IntN.{ℤ}
-use Rattle.refusals.specs.declared.Check.{Check}
-use Rattle.refusals.specs.declared.Check.TheVariants.{Fine, Refused}
+use Rattle.std.specs.Prelude.{Ok, Err}
+use Rattle.refusals.specs.Refusals.{Check}
 use Rattle.quotes.specs.declared.TopOfBook.{TopOfBook}
 use Rattle.tally.specs.Rules.{Memory, step}
-use Rattle.calibrator.specs.Record.{memory, answered}
+use Rattle.calibrator.specs.Record.{memory, answered, Previous}
 use Rattle.calibrator.specs.Observe.{check_memory, fresh, rule, judge, refusal_by}
-use Rattle.calibrator.specs.declared.Previous.{Previous}
 use Rattle.config.specs.Configuration.{config_of}
 use Rattle.abi_encoding.specs.Encoding.{record_of, right_words, encoded, bad_encoding, lent}
 use Rattle.abi_counting.specs.Counting.{of_outcome, new_words, observe_words}
@@ -20,8 +19,8 @@ module _ (w s m : List ℕ) (t : List ℤ) where
       → let x = cond b (of_outcome w (answered k (memory (record_of w) s m t) after)) (lent bad_encoding w s m t) in
       (x.answer ≡ 0 → ⊥) → x ≡ lent x.answer w s m t
   outcome-kept false k after h = refl
-  outcome-kept true Fine after h = absurd (h refl)
-  outcome-kept true (Refused r) after h = refl
+  outcome-kept true (Ok _) after h = absurd (h refl)
+  outcome-kept true (Err r) after h = refl
 
 module _ (c w s m : List ℕ) (t : List ℤ) where
   pub new-unchanged : ((new_words c w s m t).answer ≡ 0 → ⊥) → new_words c w s m t ≡ lent (new_words c w s m t).answer w s m t

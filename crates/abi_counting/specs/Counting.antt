@@ -5,9 +5,8 @@ use Rattle.std.specs.Prelude.{ℕ, cond, List, ℤ}
 use Rattle.refusals.specs.Refusals.{check_number}
 use Rattle.config.specs.Configuration.{check_config, is_config, config_of}
 use Rattle.quotes.specs.declared.TopOfBook.{TopOfBook}
-use Rattle.calibrator.specs.Record.{memory, Outcome}
+use Rattle.calibrator.specs.Record.{memory, Outcome, Previous}
 use Rattle.calibrator.specs.Observe.{made, observed}
-use Rattle.calibrator.specs.declared.Previous.{Previous}
 use Rattle.abi_encoding.specs.Encoding.{record_of, right_words, encoded, bad_encoding, Lent, lent, lent_as, words_unless}
 
 -- ---- the configuration

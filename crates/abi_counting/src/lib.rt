@@ -3,13 +3,18 @@
 // takes any words of the right number for the record that it overwrites. Every other answer is 0 or the number of a refusal.
 #![tactic(auto)]
 
-ghost use Rattle.std.specs.Prelude.{◌≡◌};
-ghost use Rattle.abi_encoding.specs.Encoding.{lent, top_of_book};
-ghost use Rattle.abi_counting.specs.Counting.{validate_words, new_words, observe_words};
+ghost use Rattle.std.specs.Prelude.{◌≡◌, length};
+ghost use Rattle.tally.specs.Entries.{Tables};
+ghost use Rattle.calibrator.specs.Record.{left_by};
+ghost use Rattle.calibrator.specs.declared.Record.{Record};
+ghost use Rattle.abi_encoding.specs.Encoding.{record_length, lent, top_of_book};
+ghost use Rattle.abi_counting.specs.Counting.{validate_words, of_outcome, new_words, observe_words};
 
 use abi_encoding::BAD_ENCODING;
+use calibrator::Record;
 use quotes::TopOfBook;
-use refusals::Check;
+use refusals::Refusal;
+use tally::LentTables;
 
 // Whether a configuration is valid: 0 or 1.
 #[unsafe(no_mangle)]
@@ -20,6 +25,20 @@ pub extern "C" fn micro_price_validate(config: &[u64]) -> u64
         return BAD_ENCODING;
     }
     refusals::check_number(config::inner::config_of(config).validate())
+}
+
+// Writes the record that an operation answers; a refusal writes nothing. Its caller has as many words.
+fn put_outcome(rec: &mut [u64], outcome: Result<Record, Refusal>) -> u64
+    requires { length rec.old ≡ record_length }
+    ensures { (before : Record) (t : Tables) → lent result rec.new t.stay t.moved t.totals ≡ of_outcome rec.old (left_by before outcome t) }
+{
+    match outcome {
+        Ok(next) => {
+            abi_encoding::put_record(rec, next);
+            0
+        }
+        Err(refusal) => refusal.number(),
+    }
 }
 
 // Empties the record and zeroes the three tables. A refusal writes nothing.
@@ -36,20 +55,13 @@ pub extern "C" fn micro_price_new(
     if !abi_encoding::right_words(config, rec) {
         return BAD_ENCODING;
     }
-    let before = abi_encoding::record_of(rec);
-    let made = calibrator::inner::new(
-        before,
+    let mut tables = LentTables {
         stay,
         moved,
         move_half_ticks,
-        config::inner::config_of(config),
-    );
-    let answer = made.answer;
-    let Check::Fine = answer else {
-        return refusals::check_number(answer);
     };
-    abi_encoding::put_record(rec, made.next);
-    0
+    let made = calibrator::inner::new(&mut tables, config::inner::config_of(config));
+    put_outcome(rec, made)
 }
 
 // Adds the next quote. A refusal writes nothing.
@@ -80,18 +92,16 @@ pub extern "C" fn micro_price_observe(
         ask_size,
     };
     let before = abi_encoding::record_of(rec);
-    let counted = calibrator::inner::observe(
-        before,
+    let mut tables = LentTables {
         stay,
         moved,
         move_half_ticks,
+    };
+    let counted = calibrator::inner::observe(
+        before,
+        &mut tables,
         config::inner::config_of(config),
         quote,
     );
-    let answer = counted.answer;
-    let Check::Fine = answer else {
-        return refusals::check_number(answer);
-    };
-    abi_encoding::put_record(rec, counted.next);
-    0
+    put_outcome(rec, counted)
 }

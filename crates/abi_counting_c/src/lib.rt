@@ -1,4 +1,5 @@
-// The functions of `abi_counting` for callers in C, with its clauses. include/micro_price.h says how they are called.
+// The functions of `abi_counting` for callers in C, with its clauses: a static library exports the functions of its own crate alone.
+// include/micro_price.h says how they are called.
 #![tactic(auto)]
 
 ghost use Rattle.std.specs.Prelude.{◌≡◌};

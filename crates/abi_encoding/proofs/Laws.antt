@@ -1,97 +1,52 @@
 -- The words of a record: their number, and there and back; and what a test of the words gives to an exported operation.
 use Prim.Native.Nat.{ℕ}
-use mathlib.Core.Path.{◌≡◌, refl, sym, ◌∙◌, ap, subst}
-use mathlib.Core.Bool.{Bool, true, false, cond, ◌&&◌, and_assoc, and-true}
-use mathlib.Core.List.{List, [], ◌∷◌}
+use mathlib.Core.Path.{◌≡◌, refl, sym, ◌∙◌, ap}
+use mathlib.Core.Bool.{Bool, true, false, cond}
+use mathlib.Core.List.{List, []}
 use lib.Dec.{eqb}
 use lib.IntN.{ℤ}
-use lib.ListN.{length, get_or, set}
-use borrow.Author.Tests.{eqb-true, eq-eqb, ne_eqb}
+use lib.ListN.{length}
+use borrow.Author.Tests.{eqb-true}
 use Rattle.basics.proofs.Tests.{both, fails, eqb_same}
-use Rattle.basics.proofs.Lists.{tab-get_d, same-equal}
+use Rattle.basics.proofs.Lists.{same-equal}
 use Rattle.config.specs.Configuration.{is_config, config_of}
 use Rattle.config.specs.declared.MicroPriceConfig.{MicroPriceConfig}
-use Rattle.calibrator.specs.Record.{memory, counts_of}
+use Rattle.calibrator.specs.Record.{memory, counts_of, Previous}
 use Rattle.calibrator.specs.declared.Counters.{Counters}
-use Rattle.calibrator.specs.declared.Previous.{Previous}
-use Rattle.calibrator.specs.declared.Previous.TheVariants.{Nothing, Quoted}
+use Rattle.std.specs.Prelude.{Some, None}
 use Rattle.calibrator.specs.declared.Record.{Record}
 use Rattle.tally.specs.Entries.{Tables, tables}
 use Rattle.tally.specs.Rules.{Memory}
-use Rattle.image_layout.specs.Layout.{previous_words}
 use Rattle.abi_encoding.specs.Encoding.{record_length, record_words, record_words_of, previous_of, counters_of, record_of, is_record, right_words, encoded}
-use Rattle.abi_encoding.specs.Inner.{are_zero}
 
 -- ---- a record
 
 record-words-long : (l : Previous) (k : Counters) (t : Tables) → length (record_words l (counts_of k t)) ≡ record_length
-record-words-long Nothing k t = refl
-record-words-long (Quoted q) k t = refl
+record-words-long None k t = refl
+record-words-long (Some q) k t = refl
 
 module _ (w : List ℕ) where
   pub record-long : is_record w ≡ true → length w ≡ record_length
   record-long e = ap length (same-equal w (record_words_of (memory (record_of w) [] [] [])) e) ∙ record-words-long (previous_of w) (counters_of w) (tables [] [] [])
 
+  pub no_record : (length w ≡ record_length → ⊥) → is_record w ≡ false
+  no_record h = fails (is_record w) (λ e. h (record-long e))
+
 record-back-of : (l : Previous) (k : Counters) (s m : List ℕ) (t : List ℤ)
     → record_of (record_words_of (memory (record { previous = l; counters = k }) s m t)) ≡ record { previous = l; counters = k }
-record-back-of Nothing k s m t = refl
-record-back-of (Quoted q) k s m t = refl
+record-back-of None k s m t = refl
+record-back-of (Some q) k s m t = refl
 
 pub record-back : (r : Record) (s m : List ℕ) (t : List ℤ) → record_of (record_words_of (memory r s m t)) ≡ r
 record-back r s m t = record-back-of r.previous r.counters s m t
 
 -- what is written is a record's
 written_of : (l : Previous) (k : Counters) (s m : List ℕ) (t : List ℤ) → is_record (record_words_of (memory (record { previous = l; counters = k }) s m t)) ≡ true
-written_of Nothing k s m t = simp eqb_same
-written_of (Quoted q) k s m t = simp eqb_same
+written_of None k s m t = simp eqb_same
+written_of (Some q) k s m t = simp eqb_same
 
 pub record-written : (r : Record) (s m : List ℕ) (t : List ℤ) → is_record (record_words_of (memory r s m t)) ≡ true
 record-written r s m t = written_of r.previous r.counters s m t
-
--- ---- as code judges them
-
--- ten words compared with those of the record that they hold
-ten-quoted : (a b c d e f g h i j : ℕ) → eqb a 1 ≡ true → is_record (a ∷ b ∷ c ∷ d ∷ e ∷ f ∷ g ∷ h ∷ i ∷ j ∷ []) ≡ true
-ten-quoted a b c d e f g h i j one = rw (one, one) (simp eqb_same)
-
-ten-nothing : (a b c d e f g h i j : ℕ) → eqb a 1 ≡ false → is_record (a ∷ b ∷ c ∷ d ∷ e ∷ f ∷ g ∷ h ∷ i ∷ j ∷ []) ≡ (eqb a 0 && are_zero b c d e f)
-ten-nothing a b c d e f g h i j other = rw other (simp (eqb_same, and_assoc, and-true))
-
-module _ (w : List ℕ) where
-  pub no_record : (length w ≡ record_length → ⊥) → is_record w ≡ false
-  no_record h = fails (is_record w) (λ e. h (record-long w e))
-
-  pub record-quoted : length w ≡ record_length → get_or w 0 0 ≡ 1 → is_record w ≡ true
-  record-quoted long e =
-      subst (λ (x : List ℕ). is_record x ≡ true) (tab-get_d w record_length 0 long)
-      (ten-quoted (get_or w 0 0) (get_or w 1 0) (get_or w 2 0) (get_or w 3 0) (get_or w 4 0) (get_or w 5 0) (get_or w 6 0) (get_or w 7 0) (get_or w 8 0) (get_or w 9 0)
-      (eq-eqb (get_or w 0 0) 1 e))
-
-  pub record-nothing : length w ≡ record_length → (get_or w 0 0 ≡ 1 → ⊥)
-      → is_record w ≡ (eqb (get_or w 0 0) 0 && are_zero (get_or w 1 0) (get_or w 2 0) (get_or w 3 0) (get_or w 4 0) (get_or w 5 0))
-  record-nothing long e =
-      ap is_record (sym (tab-get_d w record_length 0 long))
-      ∙ ten-nothing (get_or w 0 0) (get_or w 1 0) (get_or w 2 0) (get_or w 3 0) (get_or w 4 0) (get_or w 5 0) (get_or w 6 0) (get_or w 7 0) (get_or w 8 0) (get_or w 9 0)
-      (ne_eqb (get_or w 0 0) 1 e)
-
--- ---- as code writes them
-
-ten-put : (w : List ℕ) → length w ≡ record_length → (a b c d e f g h i j : ℕ)
-    → set (set (set (set (set (set (set (set (set (set w 0 a) 1 b) 2 c) 3 d) 4 e) 5 f) 6 g) 7 h) 8 i) 9 j ≡ a ∷ b ∷ c ∷ d ∷ e ∷ f ∷ g ∷ h ∷ i ∷ j ∷ []
-ten-put w long a b c d e f g h i j =
-    subst (λ (x : List ℕ). set (set (set (set (set (set (set (set (set (set x 0 a) 1 b) 2 c) 3 d) 4 e) 5 f) 6 g) 7 h) 8 i) 9 j ≡ a ∷ b ∷ c ∷ d ∷ e ∷ f ∷ g ∷ h
-    ∷ i ∷ j ∷ []) (tab-get_d w record_length 0 long) refl
-
--- a record's words, written one by one
-pub record-put : (w : List ℕ) → length w ≡ record_length → (l : Previous) (k : Counters) (p : List ℕ) → p ≡ previous_words l
-    → set (set
-    (set (set (set (set (set (set (set (set w 0 (get_or p 0 0)) 1 (get_or p 1 0)) 2 (get_or p 2 0)) 3 (get_or p 3 0)) 4 (get_or p 4 0)) 5 (get_or p 5 0)) 6 k.pairs) 7
-    k.skipped_spread_pairs) 8 k.skipped_gap_pairs) 9 k.largest_move_half_ticks ≡ record_words l (counts_of k (tables [] [] []))
-record-put w long Nothing k p e =
-    rw e (ten-put w long 0 0 0 0 0 0 k.pairs k.skipped_spread_pairs k.skipped_gap_pairs k.largest_move_half_ticks)
-record-put w long (Quoted q) k p e = rw e
-    (ten-put w long 1 q.timestamp_ms q.bid q.ask q.bid_size q.ask_size k.pairs k.skipped_spread_pairs k.skipped_gap_pairs
-    k.largest_move_half_ticks)
 
 -- ---- for the exported operations
 

@@ -1,17 +1,14 @@
 -- The words by which the exported operations lend a configuration and a record.
-use Rattle.std.specs.Prelude.{ℕ, Bool, cond, ◌&&◌, List, [], ◌∷◌, ◌++◌, eqb, ℤ, length, get_or}
+use Rattle.std.specs.Prelude.{ℕ, Bool, cond, ◌&&◌, List, [], ◌∷◌, ◌++◌, eqb, ℤ, length, get_or, Some, None, Ok, Err}
 use Rattle.basics.specs.Lists.{same_words}
-use Rattle.refusals.specs.declared.Check.{Check}
-use Rattle.refusals.specs.declared.Check.TheVariants.{Fine, Refused}
+use Rattle.refusals.specs.Refusals.{Check}
 use Rattle.config.specs.Configuration.{is_config}
 use Rattle.quotes.specs.declared.Skip.TheVariants.{Gap, Spread}
 use Rattle.quotes.specs.declared.TopOfBook.{TopOfBook}
 use Rattle.tally.specs.Events.{Counts}
 use Rattle.tally.specs.Rules.{Memory}
-use Rattle.calibrator.specs.Record.{skipped, memory}
+use Rattle.calibrator.specs.Record.{skipped, memory, Previous}
 use Rattle.calibrator.specs.declared.Counters.{Counters}
-use Rattle.calibrator.specs.declared.Previous.{Previous}
-use Rattle.calibrator.specs.declared.Previous.TheVariants.{Nothing, Quoted}
 use Rattle.calibrator.specs.declared.Record.{Record}
 use Rattle.image_layout.specs.Layout.{previous_words}
 
@@ -34,7 +31,7 @@ quote_of w =
     record { timestamp_ms = get_or w 1 0; bid = get_or w 2 0; ask = get_or w 3 0; bid_size = get_or w 4 0; ask_size = get_or w 5 0 }
 
 abbrev pub previous_of : List ℕ → Previous
-previous_of w = cond (eqb (get_or w 0 0) 1) (Quoted (quote_of w)) Nothing
+previous_of w = cond (eqb (get_or w 0 0) 1) (Some (quote_of w)) None
 
 abbrev pub counters_of : List ℕ → Counters
 counters_of w =
@@ -92,5 +89,5 @@ lent_as answer w m =
 
 -- the record's words after an operation that was lent the words w and leaves m: refused, as they came; else those of m
 abbrev pub words_unless : Check → List ℕ → Memory Previous → List ℕ
-words_unless Fine w m = record_words_of m
-words_unless (Refused r) w m = w
+words_unless (Ok _) w m = record_words_of m
+words_unless (Err r) w m = w

@@ -1,12 +1,13 @@
 -- What the exported fit and window answer and leave in the memory that they are lent. Words that are not encoded are answered with bad_encoding and change
 -- nothing; else it is the operation's own definition, in numbers.
-use Rattle.std.specs.Prelude.{ℕ, cond, List, Float, ℤ}
+use Rattle.std.specs.Prelude.{ℕ, cond, List, Float, ℤ, Result, Ok, Err}
 use Rattle.refusals.specs.Refusals.{number_of, check_number}
 use Rattle.calibrator.specs.Record.{memory}
 use Rattle.config.specs.Configuration.{config_of}
 use Rattle.abi_encoding.specs.Encoding.{record_of, encoded, bad_encoding}
 use Rattle.recording.specs.Window.{window_of}
-use Rattle.recording.specs.declared.Window.{Window}
+use Rattle.recording.specs.declared.Ends.{Ends}
+use Rattle.refusals.specs.declared.Refusal.{Refusal}
 use Rattle.fit.specs.Fit.{FitOutcome, fit_counts}
 
 -- ---- the fit: document 01, "The fit"
@@ -40,9 +41,9 @@ abbrev pub lent_ends : ℕ → ℕ → ℕ → LentEnds
 lent_ends answer first past = record { answer = answer; first = first; past = past }
 
 -- a refusal leaves both
-abbrev pub of_window : Window → ℕ → ℕ → LentEnds
-of_window (Window.Part e) first past = lent_ends 0 e.first e.past
-of_window (Window.Refused r) first past = lent_ends (number_of r) first past
+abbrev pub of_window : Result Ends Refusal → ℕ → ℕ → LentEnds
+of_window (Ok e) first past = lent_ends 0 e.first e.past
+of_window (Err r) first past = lent_ends (number_of r) first past
 
 abbrev pub window_words : List ℕ → ℕ → ℕ → ℕ → ℕ → LentEnds
 window_words w start end first past = of_window (window_of w start end) first past

@@ -5,7 +5,7 @@ ghost use Rattle.std.specs.Prelude.{◌≡◌};
 ghost use Rattle.abi_fit.specs.FitWindow.{lent_fit, fit_words, lent_ends, window_words};
 
 use abi_encoding::BAD_ENCODING;
-use recording::Window;
+use tally::TablesView;
 
 // Fits the model: writes a row of seven words for each state.
 #[unsafe(no_mangle)]
@@ -23,11 +23,14 @@ pub extern "C" fn micro_price_fit_counts(
     if !abi_encoding::is_encoded(config, rec) {
         return BAD_ENCODING;
     }
-    let answer = fit::inner::fit_counts(
-        abi_encoding::record_of(rec),
+    let tables = TablesView {
         stay,
         moved,
         move_half_ticks,
+    };
+    let answer = fit::inner::fit_counts(
+        abi_encoding::record_of(rec),
+        tables,
         config::inner::config_of(config),
         scratch,
         model,
@@ -46,13 +49,12 @@ pub extern "C" fn micro_price_window_of(
 ) -> u64
     ensures { lent_ends result first.new past.new ≡ window_words recording.now start end first.old past.old }
 {
-    let found = recording::window_of(recording, start, end);
-    match found {
-        Window::Part(ends) => {
+    match recording::window_of(recording, start, end) {
+        Ok(ends) => {
             *first = ends.first as u64;
             *past = ends.past as u64;
             0
         }
-        Window::Refused(r) => refusals::number_of(r),
+        Err(refusal) => refusal.number(),
     }
 }

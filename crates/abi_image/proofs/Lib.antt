@@ -1,2 +1,1 @@
-pub mod ImageWords
 pub mod Unchanged

@@ -5,8 +5,8 @@ use mathlib.Core.Bool.{Bool, true, false, cond}
 use mathlib.Core.List.{List}
 use lib.IntN.{ℤ}
 use lib.ListN.{length}
-use Rattle.refusals.specs.declared.Check.{Check}
-use Rattle.refusals.specs.declared.Check.TheVariants.{Fine, Refused}
+use Rattle.std.specs.Prelude.{Ok, Err}
+use Rattle.refusals.specs.Refusals.{Check}
 use Rattle.tally.specs.Entries.{tables}
 use Rattle.calibrator.specs.Record.{memory}
 use Rattle.image_layout.specs.Layout.{newest, image}
@@ -18,16 +18,16 @@ use Rattle.abi_image.specs.Images.{lent_out, of_saved, save_words, lent_back, of
 save-kept : (b : Bool) (k : Check) (out written : List ℕ) → let x = cond b (of_saved (saved_unless k out written)) (lent_out bad_encoding out) in
     (x.answer ≡ 0 → ⊥) → x ≡ lent_out x.answer out
 save-kept false k out written h = refl
-save-kept true Fine out written h = absurd (h refl)
-save-kept true (Refused r) out written h = refl
+save-kept true (Ok _) out written h = absurd (h refl)
+save-kept true (Err r) out written h = refl
 
 module _ (w s m : List ℕ) (t : List ℤ) where
   restore-kept : (c b : List ℕ) (i : Bool) (k : Check)
       → let x = cond i (of_taken c w (taken_unless k b (memory (record_of w) s m t))) (lent_back c (lent bad_encoding w s m t)) in
       (x.rest.answer ≡ 0 → ⊥) → x ≡ lent_back c (lent x.rest.answer w s m t)
   restore-kept c b false k h = refl
-  restore-kept c b true Fine h = absurd (h refl)
-  restore-kept c b true (Refused r) h = refl
+  restore-kept c b true (Ok _) h = absurd (h refl)
+  restore-kept c b true (Err r) h = refl
 
 module _ (c w s m : List ℕ) (t : List ℤ) where
   pub save-unchanged : (out : List ℕ) → ((save_words c w s m t out).answer ≡ 0 → ⊥) → save_words c w s m t out ≡ lent_out (save_words c w s m t out).answer out

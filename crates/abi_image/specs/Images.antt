@@ -1,14 +1,13 @@
 -- The exported forms of document 01's "The image": what they answer and leave in the memory that they are lent.
 -- Words that are not encoded, and of restore words of other lengths, are answered with bad_encoding and leave it as it is; else it is the operation's
 -- own definition, in numbers and words.
-use Rattle.std.specs.Prelude.{ℕ, cond, List, ℤ}
+use Rattle.std.specs.Prelude.{ℕ, cond, List, ℤ, Result, Ok, Err}
 use Rattle.refusals.specs.Refusals.{number_of, check_number}
 use Rattle.tally.specs.Rules.{Memory}
-use Rattle.calibrator.specs.Record.{memory}
-use Rattle.calibrator.specs.declared.Previous.{Previous}
+use Rattle.calibrator.specs.Record.{memory, Previous}
+use Rattle.config.specs.declared.MicroPriceConfig.{MicroPriceConfig}
+use Rattle.refusals.specs.declared.Refusal.{Refusal}
 use Rattle.image.specs.Image.{Saved, saved, Taken, restored}
-use Rattle.image.specs.declared.Restored.{Restored}
-use Rattle.image.specs.declared.Restored.TheVariants.{Config, Refused}
 use Rattle.config.specs.Configuration.{config_words, config_of}
 use Rattle.abi_encoding.specs.Encoding.{record_words_of, record_of, right_words, encoded, bad_encoding, Lent, lent, lent_as}
 
@@ -35,19 +34,19 @@ pub record LentBack : Type 0 where
 abbrev pub lent_back : List ℕ → Lent → LentBack
 lent_back config rest = record { config = config; rest = rest }
 
-abbrev pub restored_number : Restored → ℕ
-restored_number (Config d) = 0
-restored_number (Refused r) = number_of r
+abbrev pub restored_number : Result MicroPriceConfig Refusal → ℕ
+restored_number (Ok d) = 0
+restored_number (Err r) = number_of r
 
 -- the configuration is written if it is answered
-abbrev pub config_after : Restored → List ℕ → List ℕ
-config_after (Config d) c = config_words d
-config_after (Refused r) c = c
+abbrev pub config_after : Result MicroPriceConfig Refusal → List ℕ → List ℕ
+config_after (Ok d) c = config_words d
+config_after (Err r) c = c
 
 -- and the record
-abbrev pub record_after : Restored → List ℕ → Memory Previous → List ℕ
-record_after (Config d) w m = record_words_of m
-record_after (Refused r) w m = w
+abbrev pub record_after : Result MicroPriceConfig Refusal → List ℕ → Memory Previous → List ℕ
+record_after (Ok d) w m = record_words_of m
+record_after (Err r) w m = w
 
 -- what restore leaves of the configuration's words c and the record's words w
 abbrev pub of_taken : List ℕ → List ℕ → Taken → LentBack

@@ -8,19 +8,19 @@ ghost use Rattle.abi_encoding.specs.Encoding.{top_of_book};
 ghost use Rattle.abi_models.specs.Models.{lent_row, check_model_words, lent_signal, signal_length, sent_words, signal_words};
 
 use abi_encoding::BAD_ENCODING;
-use model_signals::{MicroPriceSignal, Signalled};
+use model_signals::MicroPriceSignal;
 use quotes::TopOfBook;
-use refusals::{Check, Refusal};
+use refusals::Refusal;
 
 // How many words a signal has.
 pub const SIGNAL_WORDS: usize = 4;
 
 // A refusal's number; at 13 the row that it names is written.
-fn put_row(r: Refusal, row: &mut u64) -> u64
-    ensures { (result ≡ number_of r) × (row.new ≡ row_or r row.old) }
+fn put_row(refusal: Refusal, row: &mut u64) -> u64
+    ensures { (result ≡ number_of refusal) × (row.new ≡ row_or refusal row.old) }
 {
-    *row = refusals::row_or(r, *row);
-    refusals::number_of(r)
+    *row = refusal.row_or(*row);
+    refusal.number()
 }
 
 // Refuses a model table that is not one of the configuration; at 13, row is the first bad row.
@@ -31,10 +31,9 @@ pub extern "C" fn micro_price_check_model(config: &[u64], model: &[u64], row: &m
     if config.len() != config::inner::CONFIG_WORDS {
         return BAD_ENCODING;
     }
-    let checked = model_check::check_model(config::inner::config_of(config), model);
-    match checked {
-        Check::Fine => 0,
-        Check::Refused(r) => put_row(r, row),
+    match model_check::check_model(config::inner::config_of(config), model) {
+        Ok(()) => 0,
+        Err(refusal) => put_row(refusal, row),
     }
 }
 
@@ -43,11 +42,13 @@ fn put_signal(out: &mut [u64], s: MicroPriceSignal)
     requires { length out.old ≡ signal_length }
     ensures { out.new ≡ sent_words s }
 {
-    let source = s.source;
-    out[0] = s.timestamp_ms;
-    out[1] = s.mid_sum;
-    out[2] = floats::to_bits(s.adjustment);
-    out[3] = model_signals::inner::source_number(source);
+    let words = [
+        s.timestamp_ms,
+        s.mid_sum,
+        floats::to_bits(s.adjustment),
+        model_signals::inner::source_number(s.source),
+    ];
+    out.copy_from_slice(&words);
 }
 
 // The signal of a quote; at 13, row is the quote's state.
@@ -78,12 +79,11 @@ pub extern "C" fn micro_price_signal(
         bid_size,
         ask_size,
     };
-    let sent = model_signals::signal(config::inner::config_of(config), model, quote);
-    match sent {
-        Signalled::Sent(s) => {
-            put_signal(out, s);
+    match model_signals::signal(config::inner::config_of(config), model, quote) {
+        Ok(signal) => {
+            put_signal(out, signal);
             0
         }
-        Signalled::Refused(r) => put_row(r, row),
+        Err(refusal) => put_row(refusal, row),
     }
 }

@@ -41,10 +41,10 @@ module _ {A : Type 0} where
   length-tab zero f = refl
   length-tab (suc n) f = ap suc (length-tab n (λ k. f (suc k)))
 
-  pub get_d-tab : (n : ℕ) (f : ℕ → A) (k : ℕ) (d : A) → k < n → get_or (tab n f) k d ≡ f k
-  get_d-tab zero f k d h = absurd (not-suc-le-zero h)
-  get_d-tab (suc n) f zero d h = refl
-  get_d-tab (suc n) f (suc k) d h = get_d-tab n (λ m. f (suc m)) k d (le_of_suc-le-suc h)
+  pub get_or-tab : (n : ℕ) (f : ℕ → A) (k : ℕ) (d : A) → k < n → get_or (tab n f) k d ≡ f k
+  get_or-tab zero f k d h = absurd (not-suc-le-zero h)
+  get_or-tab (suc n) f zero d h = refl
+  get_or-tab (suc n) f (suc k) d h = get_or-tab n (λ m. f (suc m)) k d (le_of_suc-le-suc h)
 
   pub tab-ext : (n : ℕ) (f g : ℕ → A) → ((k : ℕ) → k < n → f k ≡ g k) → tab n f ≡ tab n g
   tab-ext zero f g h = refl
@@ -60,23 +60,23 @@ module _ {A : Type 0} where
 
       go : (m : ℕ) → m < n → Dec (m ≡ k) → get_or (set (tab n f) k a) m a ≡ get_or (tab n g) m a
       go m b (yes p) =
-          rw p (get_or-set_same (tab n f) k a a (rw (length-tab n f) h) ∙ e ∙ sym (get_d-tab n g k a h))
-      go m b (no q) = get_or-set_other (tab n f) k m a a q ∙ get_d-tab n f m a b ∙ o m b q ∙ sym (get_d-tab n g m a b)
+          rw p (get_or-set_same (tab n f) k a a (rw (length-tab n f) h) ∙ e ∙ sym (get_or-tab n g k a h))
+      go m b (no q) = get_or-set_other (tab n f) k m a a q ∙ get_or-tab n f m a b ∙ o m b q ∙ sym (get_or-tab n g m a b)
 
       at : (m : ℕ) → m < length (set (tab n f) k a) → get_or (set (tab n f) k a) m a ≡ get_or (tab n g) m a
       at m b = go m (rw (length-set (tab n f) k a, length-tab n f) at b) (ℕ_discrete m k)
 
   -- a list is made by what stands at its places
-  pub tab-get_d : (l : List A) (n : ℕ) (d : A) → length l ≡ n → tab n (λ k. get_or l k d) ≡ l
-  tab-get_d [] zero d e = refl
-  tab-get_d [] (suc n) d e = absurd (suc-ne-zero n (sym e))
-  tab-get_d (x ∷ xs) zero d e = absurd (suc-ne-zero (length xs) e)
-  tab-get_d (x ∷ xs) (suc n) d e = ap (λ (r : List A). x ∷ r) (tab-get_d xs n d (suc_inj e))
+  pub tab-get_or : (l : List A) (n : ℕ) (d : A) → length l ≡ n → tab n (λ k. get_or l k d) ≡ l
+  tab-get_or [] zero d e = refl
+  tab-get_or [] (suc n) d e = absurd (suc-ne-zero n (sym e))
+  tab-get_or (x ∷ xs) zero d e = absurd (suc-ne-zero (length xs) e)
+  tab-get_or (x ∷ xs) (suc n) d e = ap (λ (r : List A). x ∷ r) (tab-get_or xs n d (suc_inj e))
 
-  pub square-get_d : (N : ℕ) (l : List A) (d : A) → length l ≡ N * N → square N (λ i j. get_or l (i * N + j) d) ≡ l
-  square-get_d N l d e =
+  pub square-get_or : (N : ℕ) (l : List A) (d : A) → length l ≡ N * N → square N (λ i j. get_or l (i * N + j) d) ≡ l
+  square-get_or N l d e =
       tab-ext (N * N) (λ k. get_or l (k / N * N + k % N) d) (λ k. get_or l k d) (λ k b. ap (λ (n : ℕ). get_or l n d) (div-add-mod' k N))
-      ∙ tab-get_d l (N * N) d e
+      ∙ tab-get_or l (N * N) d e
 
 module _ (N i j : ℕ) (hj : j < N) where
   pub flat-row : (i * N + j) / N ≡ i
@@ -88,9 +88,9 @@ module _ (N i j : ℕ) (hj : j < N) where
   pub flat-below : (M : ℕ) → i < M → i * N + j < M * N
   flat-below M hi = omega (arith, mul-le-mul_right N hi)
 
-pub get_d-square : {A : Type 0} (N : ℕ) (f : ℕ → ℕ → A) (i j : ℕ) (d : A) → i < N → j < N → get_or (square N f) (i * N + j) d ≡ f i j
-get_d-square {A} N f i j d hi hj =
-    get_d-tab (N * N) (λ k. f (k / N) (k % N)) (i * N + j) d (flat-below N i j hj N hi)
+pub get_or-square : {A : Type 0} (N : ℕ) (f : ℕ → ℕ → A) (i j : ℕ) (d : A) → i < N → j < N → get_or (square N f) (i * N + j) d ≡ f i j
+get_or-square {A} N f i j d hi hj =
+    get_or-tab (N * N) (λ k. f (k / N) (k % N)) (i * N + j) d (flat-below N i j hj N hi)
     ∙ (λ t. f (flat-row N i j hj t) (flat-column N i j hj t))
 
 -- ---- sums

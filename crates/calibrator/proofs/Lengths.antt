@@ -1,17 +1,17 @@
 -- What is known of tables of the right lengths.
 use Prim.Native.Nat.{ℕ, ◌*◌}
 use mathlib.Core.Path.{◌≡◌, refl}
-use mathlib.Core.Bool.{Bool, false, not, ◌||◌}
+use mathlib.Core.Bool.{false, not, ◌||◌}
 use lib.Dec.{eqb}
 use borrow.Author.Tests.{eqb-true, not-false}
 use Rattle.basics.proofs.Tests.{neither}
 use Rattle.refusals.specs.Refusals.{refuse_if}
-use Rattle.refusals.specs.declared.Check.TheVariants.{Fine}
+use Rattle.std.specs.Prelude.{Ok}
 use Rattle.refusals.proofs.Refusals.{if-fine, first_fine}
-use Rattle.config.specs.Configuration.{states, valid, check_config}
+use Rattle.config.specs.Configuration.{states, check_config}
 use Rattle.config.specs.Inner.{Valid}
 use Rattle.config.specs.declared.MicroPriceConfig.{MicroPriceConfig}
-use Rattle.config.proofs.Known.{valid-known}
+use Rattle.config.proofs.Known.{config-known}
 use Rattle.calibrator.specs.Observe.{wrong_lengths, check_table_lengths}
 
 pub record RightLengths (n stay moved totals : ℕ) : Type 0 where
@@ -29,13 +29,8 @@ lengths-known n stay moved totals e =
       totals-cells = eqb-true totals n (not-false _ a.1);
     }
 
-pub tables-known : (c : MicroPriceConfig) (stay moved totals : ℕ) → check_table_lengths c stay moved totals ≡ Fine
+pub tables-known : (c : MicroPriceConfig) (stay moved totals : ℕ) → check_table_lengths c stay moved totals ≡ Ok tt
     → Valid c × (wrong_lengths (states c) stay moved totals ≡ false)
 tables-known c stay moved totals e =
     let f = first_fine (check_config c) (refuse_if (wrong_lengths (states c) stay moved totals) 7) e in
-    (valid-known c (not-false (valid c) (if-fine (not (valid c)) 1 refl f.0)), if-fine (wrong_lengths (states c) stay moved totals) 7 refl f.1)
-
--- where the configuration is valid, the lengths are left to judge
-pub lengths-judged : (c : MicroPriceConfig) (stay moved totals : ℕ) (v : Bool) → v ≡ valid c → not v ≡ false → (n : ℕ) → n ≡ states c
-    → (w : Bool) → w ≡ wrong_lengths n stay moved totals → check_table_lengths c stay moved totals ≡ refuse_if w 7
-lengths-judged c stay moved totals v e f n g w h = rw (← e, not-false v f, ← g, ← h)
+    (config-known c f.0, if-fine (wrong_lengths (states c) stay moved totals) 7 refl f.1)

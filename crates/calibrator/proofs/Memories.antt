@@ -3,13 +3,12 @@ use mathlib.Core.Path.{◌≡◌, ap}
 use mathlib.Core.List.{List}
 use Prim.Native.Nat.{ℕ}
 use lib.ListN.{length}
-use Rattle.basics.proofs.Lists.{tab-get_d}
+use Rattle.basics.proofs.Lists.{tab-get_or}
 use Rattle.config.specs.declared.MicroPriceConfig.{MicroPriceConfig}
 use Rattle.quotes.specs.declared.Skip.TheVariants.{Gap, Spread}
 use Rattle.tally.specs.Rules.{Memory}
-use Rattle.calibrator.specs.Record.{kinds, skipped, memory}
+use Rattle.calibrator.specs.Record.{kinds, skipped, memory, Previous}
 use Rattle.calibrator.specs.Observe.{rule}
-use Rattle.calibrator.specs.declared.Previous.{Previous}
 use Rattle.calibrator.specs.declared.Record.{Record}
 
 abbrev pub record_of : Memory Previous → Record
@@ -35,4 +34,4 @@ record-back c m e =
       counts =
           record { pairs = m.counts.pairs; skips = l; largest = m.counts.largest; tables = m.counts.tables };
     })
-    (tab-get_d m.counts.skips kinds 0 e)
+    (tab-get_or m.counts.skips kinds 0 e)

@@ -5,15 +5,14 @@ use mathlib.Core.Bool.{false, not}
 use mathlib.Core.List.{List, [], ◌∷◌, ◌++◌}
 use native.Mathlib.Omega.{arith}
 use Rattle.basics.proofs.Tests.{zero-not-one}
-use Rattle.refusals.specs.declared.Check.{Check}
-use Rattle.refusals.specs.declared.Check.TheVariants.{Fine, Refused}
+use Rattle.std.specs.Prelude.{Some, None, Result, Ok, Err}
+use Rattle.quotes.specs.declared.Pair.{Pair}
+use Rattle.refusals.specs.Refusals.{Check}
 use Rattle.refusals.specs.declared.Refusal.{Refusal}
 use Rattle.config.specs.Configuration.{states}
 use Rattle.config.specs.Inner.{Valid}
 use Rattle.config.specs.declared.MicroPriceConfig.{MicroPriceConfig}
 use Rattle.quotes.specs.Neighbours.{neighbours_of}
-use Rattle.quotes.specs.declared.Neighbours.{Neighbours}
-use Rattle.quotes.specs.declared.Neighbours.TheVariants.{Skipped, Counted}
 use Rattle.quotes.specs.declared.Skip.{Skip}
 use Rattle.quotes.specs.declared.Skip.TheVariants.{Gap, Spread}
 use Rattle.quotes.specs.declared.TopOfBook.{TopOfBook}
@@ -22,33 +21,31 @@ use Rattle.quotes.proofs.States.{place-located, mirror-below, mirror-involution}
 use Rattle.tally.specs.Events.{is_first, Counts}
 use Rattle.tally.specs.Rules.{InRange, Lawful, Memory, step, memory_of}
 use Rattle.tally.proofs.Step.{step-memory}
-use Rattle.calibrator.specs.Record.{kinds, kind_of, answered}
+use Rattle.calibrator.specs.Record.{kinds, kind_of, answered, Previous}
 use Rattle.calibrator.specs.Observe.{event_from, event_of, is_quoted, rule, judge, refusal_by, observed}
-use Rattle.calibrator.specs.declared.Previous.{Previous}
-use Rattle.calibrator.specs.declared.Previous.TheVariants.{Nothing, Quoted}
 
 kind-below : (k : Skip) → kind_of k < kinds
 kind-below Gap = omega arith
 kind-below Spread = omega arith
 
-never_first : (n : Neighbours) → is_first (event_from n) ≡ false
-never_first (Skipped k) = refl
-never_first (Counted e) = refl
+never_first : (n : Result Pair Skip) → is_first (event_from n) ≡ false
+never_first (Err k) = refl
+never_first (Ok e) = refl
 
 module _ (c : MicroPriceConfig) (v : Valid c) where
-  pair-in : (p q : TopOfBook) (n : Neighbours) → neighbours_of c p q ≡ n → InRange kinds (states c) (event_from n)
-  pair-in p q (Skipped k) h = kind-below k
-  pair-in p q (Counted e) h =
+  pair-in : (p q : TopOfBook) (n : Result Pair Skip) → neighbours_of c p q ≡ n → InRange kinds (states c) (event_from n)
+  pair-in p q (Err k) h = kind-below k
+  pair-in p q (Ok e) h =
       let k = counted-made c p q e h in
       ((place-located c p v e.from k.from_place).below, (place-located c q v e.to k.to-place).below)
 
   event-in : (l : Previous) (q : TopOfBook) → InRange kinds (states c) (event_of c l q)
-  event-in Nothing q = tt
-  event-in (Quoted p) q = pair-in p q (neighbours_of c p q) refl
+  event-in None q = tt
+  event-in (Some p) q = pair-in p q (neighbours_of c p q) refl
 
   event-first : (l : Previous) (q : TopOfBook) → is_first (event_of c l q) ≡ not (is_quoted l)
-  event-first Nothing q = refl
-  event-first (Quoted p) q = never_first (neighbours_of c p q)
+  event-first None q = refl
+  event-first (Some p) q = never_first (neighbours_of c p q)
 
   pub rule-lawful : Lawful (rule c)
   rule-lawful =
@@ -62,24 +59,24 @@ module _ (c : MicroPriceConfig) (v : Valid c) where
         arrive-started = λ l q. refl;
       }
 
-accepted-left : (k : Check) (m n : Memory Previous) → (answered k m n).answer ≡ Fine → (answered k m n).left ≡ n
-accepted-left Fine m n e = refl
-accepted-left (Refused r) m n e = absurd (zero-not-one cc)
+accepted-left : (k : Check) (m n : Memory Previous) → (answered k m n).answer ≡ Ok tt → (answered k m n).left ≡ n
+accepted-left (Ok _) m n e = refl
+accepted-left (Err r) m n e = absurd (zero-not-one cc)
 
-refused-left : (k : Check) (m n : Memory Previous) (r : Refusal) → (answered k m n).answer ≡ Refused r → (answered k m n).left ≡ m
-refused-left Fine m n r e = absurd (zero-not-one cc)
-refused-left (Refused x) m n r e = refl
+refused-left : (k : Check) (m n : Memory Previous) (r : Refusal) → (answered k m n).answer ≡ Err r → (answered k m n).left ≡ m
+refused-left (Ok _) m n r e = absurd (zero-not-one cc)
+refused-left (Err x) m n r e = refl
 
 -- the step law for document 01's rule: an accepted quote on the memory of a history leaves the memory of the history with that quote
 pub observed-step : (c : MicroPriceConfig) → Valid c → (start : Counts) (qs : List TopOfBook) (q : TopOfBook)
-    → (observed c (memory_of (rule c) Nothing start qs) q).answer ≡ Fine
-    → (observed c (memory_of (rule c) Nothing start qs) q).left ≡ memory_of (rule c) Nothing start (qs ++ q ∷ [])
+    → (observed c (memory_of (rule c) None start qs) q).answer ≡ Ok tt
+    → (observed c (memory_of (rule c) None start qs) q).left ≡ memory_of (rule c) None start (qs ++ q ∷ [])
 observed-step c v start qs q e =
-    accepted-left (refusal_by (rule c) (judge c) (memory_of (rule c) Nothing start qs) q) (memory_of (rule c) Nothing start qs)
-    (step (rule c) (memory_of (rule c) Nothing start qs) q) e
-    ∙ step-memory (rule c) (rule-lawful c v) Nothing start qs q
+    accepted-left (refusal_by (rule c) (judge c) (memory_of (rule c) None start qs) q) (memory_of (rule c) None start qs)
+    (step (rule c) (memory_of (rule c) None start qs) q) e
+    ∙ step-memory (rule c) (rule-lawful c v) None start qs q
 
 -- a refused quote leaves any memory as it was
-pub observed-refused : (c : MicroPriceConfig) (m : Memory Previous) (q : TopOfBook) (r : Refusal) → (observed c m q).answer ≡ Refused r
+pub observed-refused : (c : MicroPriceConfig) (m : Memory Previous) (q : TopOfBook) (r : Refusal) → (observed c m q).answer ≡ Err r
     → (observed c m q).left ≡ m
 observed-refused c m q r e = refused-left (refusal_by (rule c) (judge c) m q) m (step (rule c) m q) r e

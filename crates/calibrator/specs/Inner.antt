@@ -1,11 +1,10 @@
--- For the contracts and proofs of inner functions alone: an answer with the record and tables that are left, the counters after a pair or a skip, and an event
+-- For the contracts and proofs of inner functions alone: the record after an accepted quote, the counters after a pair or a skip, and an event
 -- counted.
-use Rattle.std.specs.Prelude.{ℕ, ◌+◌, ◌≤◌, max, List, ℤ, nat_abs}
+use Rattle.std.specs.Prelude.{ℕ, ◌+◌, ◌≤◌, max, nat_abs, Result, Some, Ok, Err}
 use Rattle.basics.specs.Domain.{most_half_ticks}
 use Rattle.tally.specs.Totals.{change}
-use Rattle.refusals.specs.Refusals.{refusal, refuse_if}
-use Rattle.refusals.specs.declared.Check.{Check}
-use Rattle.refusals.specs.declared.Check.TheVariants.{Fine, Refused}
+use Rattle.refusals.specs.Refusals.{refuse_if, Check}
+use Rattle.refusals.specs.declared.Refusal.{Refusal}
 use Rattle.config.specs.declared.MicroPriceConfig.{MicroPriceConfig}
 use Rattle.quotes.specs.Inner.{Located}
 use Rattle.quotes.specs.declared.Pair.{Pair}
@@ -16,18 +15,12 @@ use Rattle.tally.specs.Events.{Event, entered}
 use Rattle.tally.specs.Rules.{Memory}
 use Rattle.tally.specs.declared.PairEntry.{PairEntry}
 use Rattle.calibrator.specs.declared.Counters.{Counters}
-use Rattle.calibrator.specs.declared.Done.{Done}
-use Rattle.calibrator.specs.declared.Previous.{Previous}
-use Rattle.calibrator.specs.declared.Previous.TheVariants.{Quoted}
+use Rattle.calibrator.specs.Record.{Previous, Outcome, answered}
 use Rattle.calibrator.specs.declared.Record.{Record}
-use Rattle.calibrator.specs.Record.{memory, Outcome, answered}
 use Rattle.config.specs.Configuration.{states}
 use Rattle.quotes.specs.States.{mirror_of}
 use Rattle.tally.specs.Limits.{touched}
 use Rattle.calibrator.specs.Observe.{judge_after}
-
-abbrev pub outcome : Check → Record → List ℕ → List ℕ → List ℤ → Outcome Previous
-outcome k r s m t = record { answer = k; left = memory r s m t }
 
 abbrev pub skip_count : Counters → Skip → ℕ
 skip_count k Gap = k.skipped_gap_pairs
@@ -58,16 +51,13 @@ add_pair k e =
       largest_move_half_ticks = max k.largest_move_half_ticks (nat_abs (change e.mid_from e.mid_to));
     }
 
-abbrev pub accepted : Counters → TopOfBook → Done
-accepted k q = record { answer = Fine; next = record { previous = Quoted q; counters = k } }
-
-abbrev pub limited : Record → Done
-limited r = record { answer = refusal 6; next = r }
+abbrev pub accepted : Counters → TopOfBook → Record
+accepted k q = record { previous = Some q; counters = k }
 
 -- a refusal, or what follows
-abbrev pub pick_done : Check → Record → Done → Done
-pick_done Fine r d = d
-pick_done (Refused x) r d = record { answer = Refused x; next = r }
+abbrev pub unless_refused : Check → Record → Result Record Refusal
+unless_refused (Ok _) r = Ok r
+unless_refused (Err x) r = Err x
 
 abbrev pub no_counters : Counters
 no_counters =
@@ -92,10 +82,10 @@ pub record Countable (c : MicroPriceConfig) (p : Pair) : Type 0 where
   pub mid-to-most : p.mid_to ≤ most_half_ticks
 
 abbrev pub judge_pair : MicroPriceConfig → TopOfBook → TopOfBook → Check
-judge_pair c p q = judge_after c (Quoted p) q
+judge_pair c p q = judge_after c (Some p) q
 
 -- an event counted, where nothing before 6 refuses
 abbrev pub counted_as : MicroPriceConfig → Memory Previous → TopOfBook → Event → Outcome Previous
 counted_as c m q e =
     let after = entered (states c) (mirror_of c.imbalance_buckets) e m.counts in
-    answered (refuse_if (touched (states c) (mirror_of c.imbalance_buckets) e after) 6) m (record { last = Quoted q; counts = after })
+    answered (refuse_if (touched (states c) (mirror_of c.imbalance_buckets) e after) 6) m (record { last = Some q; counts = after })

@@ -1,90 +1,66 @@
-// The work by value, for Rattle callers, and the functions that it is made of. `new` and `observe` ask nothing; where another has a `requires`, each caller proves it.
-ghost use Rattle.std.specs.Prelude.{◌≡◌, false, ℕ, ◌+◌, ◌*◌, ◌≤◌, ◌<◌, length, replicate, ℤ, pos, List};
+// The work by value, for Rattle callers, and the functions that it is made of. Beside the operations, which are thin over it: docs/DECISIONS.md.
+// `new` and `observe` ask nothing; where another has a `requires`, each caller proves it.
+ghost use Rattle.std.specs.Prelude.{◌≡◌, false, ◌≤◌, ◌<◌};
 ghost use Rattle.basics.specs.Domain.{counter_limit};
 ghost use Rattle.config.specs.Configuration.{states};
 ghost use Rattle.config.specs.Inner.{Valid};
 ghost use Rattle.quotes.specs.Neighbours.{neighbours_of};
 ghost use Rattle.quotes.specs.Inner.{Accepted};
 ghost use Rattle.quotes.specs.Quotes.{check_quote};
+ghost use Rattle.tally.specs.Entries.{Tables};
 ghost use Rattle.tally.specs.Events.{skip};
-ghost use Rattle.calibrator.specs.Record.{memory, kind_of, leaves};
-ghost use Rattle.calibrator.specs.Inner.{outcome, skip_count, add_skip, add_pair, accepted, limited, pick_done, no_counters, entry_of, Countable, judge_pair, counted_as};
-ghost use Rattle.calibrator.specs.Observe.{event_from, wrong_lengths, check_table_lengths, made, observed};
+ghost use Rattle.tally.specs.Lent.{tables_of, tables_in, SameSlices};
+ghost use Rattle.calibrator.specs.Record.{memory_with, kind_of, left_by};
+ghost use Rattle.calibrator.specs.declared.Record.{Record};
+ghost use Rattle.calibrator.specs.Inner.{skip_count, add_skip, add_pair, accepted, unless_refused, no_counters, entry_of, Countable, judge_pair, counted_as};
+ghost use Rattle.calibrator.specs.Observe.{event_from, lent_wrong, check_lent, made, observed};
 
-use super::{Counters, Done, Previous, Record};
+use super::{Counters, Record};
 use config::MicroPriceConfig;
-use quotes::{Neighbours, Pair, Skip, TopOfBook};
-use refusals::{Check, Refusal};
-use tally::PairEntry;
+use quotes::{Pair, Skip, TopOfBook};
+use refusals::Refusal;
+use tally::{LentTables, PairEntry, TablesView};
 
-pub fn wrong_lengths(n: usize, stay: usize, moved: usize, move_half_ticks: usize) -> bool
+pub fn wrong_lengths(n: usize, tables: TablesView<'_>) -> bool
     requires { n ≤ 256 }
-    ensures { result ≡ wrong_lengths n stay moved move_half_ticks }
+    ensures { result ≡ lent_wrong n (tables_in tables.entry) }
 {
     let cells = n * n;
-    (stay != cells) | (moved != cells) | (move_half_ticks != n)
+    (tables.stay.len() != cells)
+        | (tables.moved.len() != cells)
+        | (tables.move_half_ticks.len() != n)
 }
 
 // The first of refusals 1 and 7.
-pub fn check_table_lengths(
-    config: MicroPriceConfig,
-    stay: usize,
-    moved: usize,
-    move_half_ticks: usize,
-) -> Check
-    ensures { result ≡ check_table_lengths config stay moved move_half_ticks }
+pub fn check_table_lengths(config: MicroPriceConfig, tables: TablesView<'_>) -> Result<(), Refusal>
+    ensures { result ≡ check_lent config (tables_in tables.entry) }
 {
-    if !config::inner::is_valid(config) {
-        return Check::Refused(Refusal::Configuration);
+    config.validate()?;
+    if wrong_lengths(config::inner::state_count(config), tables) {
+        return Err(Refusal::SliceLength);
     }
-    if wrong_lengths(
-        config::inner::state_count(config),
-        stay,
-        moved,
-        move_half_ticks,
-    ) {
-        return Check::Refused(Refusal::SliceLength);
-    }
-    Check::Fine
+    Ok(())
 }
 
 // The first of refusals 8, 2, 3, 4 and 5 where there is a last quote.
-fn judge_pair(config: MicroPriceConfig, last: TopOfBook, quote: TopOfBook) -> Check
+fn judge_pair(config: MicroPriceConfig, last: TopOfBook, quote: TopOfBook) -> Result<(), Refusal>
     requires { 1 ≤ config.tick_size }
     ensures { result ≡ judge_pair config last quote }
 {
-    let sound = quotes::inner::check_quote(config, last);
-    let Check::Fine = sound else {
-        return Check::Refused(Refusal::LastQuoteBroken);
-    };
-    let checked = quotes::inner::check_quote(config, quote);
-    let Check::Fine = checked else {
-        return checked;
-    };
+    quotes::inner::check_quote(config, last).map_err(|_| Refusal::LastQuoteBroken)?;
+    quotes::inner::check_quote(config, quote)?;
     if quote.timestamp_ms < last.timestamp_ms {
-        return Check::Refused(Refusal::EarlierTime);
+        return Err(Refusal::EarlierTime);
     }
-    Check::Fine
+    Ok(())
 }
 
-fn accept(counters: Counters, quote: TopOfBook) -> Done
+fn accept(counters: Counters, quote: TopOfBook) -> Record
     ensures { result ≡ accepted counters quote }
 {
-    Done {
-        answer: Check::Fine,
-        next: Record {
-            previous: Previous::Quoted(quote),
-            counters,
-        },
-    }
-}
-
-fn limit(rec: Record) -> Done
-    ensures { result ≡ limited rec }
-{
-    Done {
-        answer: Check::Refused(Refusal::CountLimit),
-        next: rec,
+    Record {
+        previous: Some(quote),
+        counters,
     }
 }
 
@@ -119,10 +95,8 @@ fn with_pair(counters: Counters, e: PairEntry) -> Counters
 {
     let mut next = counters;
     next.pairs = counters.pairs + 1;
-    next.largest_move_half_ticks = basics::larger(
-        counters.largest_move_half_ticks,
-        tally::totals::distance(e.mid_from, e.mid_to),
-    );
+    let size = tally::totals::distance(e.mid_from, e.mid_to);
+    next.largest_move_half_ticks = counters.largest_move_half_ticks.max(size);
     next
 }
 
@@ -142,139 +116,92 @@ fn entry_of(pair: Pair) -> PairEntry
 }
 
 // Counts two neighbours that are skipped.
-fn skip_pair(rec: Record, config: MicroPriceConfig, quote: TopOfBook, kind: Skip) -> Done
-    ensures { (s m : List ℕ) (t : List ℤ) → outcome result.answer result.next s m t ≡ counted_as config (memory rec s m t) quote (skip (kind_of kind)) }
+fn skip_pair(
+    rec: Record,
+    config: MicroPriceConfig,
+    quote: TopOfBook,
+    kind: Skip,
+) -> Result<Record, Refusal>
+    ensures { (t : Tables) → left_by rec result t ≡ counted_as config (memory_with rec t) quote (skip (kind_of kind)) }
 {
     let counters = rec.counters;
     if tally::may_count(skip_count(counters, kind)) {
-        return accept(with_skip(counters, kind), quote);
+        return Ok(accept(with_skip(counters, kind), quote));
     }
-    limit(rec)
+    Err(Refusal::CountLimit)
 }
 
 // Counts two neighbours that are a pair.
 fn count_pair(
     rec: Record,
-    stay: &mut [u64],
-    moved: &mut [u64],
-    move_half_ticks: &mut [i64],
+    tables: &mut LentTables<'_>,
     config: MicroPriceConfig,
     quote: TopOfBook,
     pair: Pair,
-) -> Done
-    requires { Valid config × Countable config pair × (wrong_lengths (states config) (length stay.old) (length moved.old) (length move_half_ticks.old) ≡ false) }
-    ensures { leaves result.answer result.next stay.new moved.new move_half_ticks.new
-        ≡ counted_as config (memory rec stay.old moved.old move_half_ticks.old) quote (event_from (Neighbours.Counted pair)) }
+) -> Result<Record, Refusal>
+    requires { Valid config × Countable config pair × (lent_wrong (states config) (tables_of tables.old) ≡ false) }
+    ensures left { left_by rec result (tables_of tables.new) ≡ counted_as config (memory_with rec (tables_of tables.old)) quote (event_from (Ok pair)) }
+    ensures same_slices { SameSlices tables.old tables.new }
 {
     let n = config::inner::state_count(config);
     let e = entry_of(pair);
     let counters = rec.counters;
     if !tally::may_count(counters.pairs) {
-        return limit(rec);
+        return Err(Refusal::CountLimit);
     }
-    if !tally::pair_within(n, stay, moved, move_half_ticks, e) {
-        return limit(rec);
+    if !tally::pair_within(n, tables, e) {
+        return Err(Refusal::CountLimit);
     }
-    tally::enter_pair(n, stay, moved, move_half_ticks, e);
-    accept(with_pair(counters, e), quote)
+    tally::enter_pair(n, tables, e);
+    Ok(accept(with_pair(counters, e), quote))
 }
 
 // A quote after another, under a valid configuration and in tables of its lengths.
 fn next_quote(
     rec: Record,
-    stay: &mut [u64],
-    moved: &mut [u64],
-    move_half_ticks: &mut [i64],
+    tables: &mut LentTables<'_>,
     config: MicroPriceConfig,
     last: TopOfBook,
     quote: TopOfBook,
-) -> Done
+) -> Result<Record, Refusal>
     requires { Valid config × Accepted config last × Accepted config quote × (last.timestamp_ms ≤ quote.timestamp_ms)
-        × (wrong_lengths (states config) (length stay.old) (length moved.old) (length move_half_ticks.old) ≡ false) }
-    ensures { leaves result.answer result.next stay.new moved.new move_half_ticks.new
-        ≡ counted_as config (memory rec stay.old moved.old move_half_ticks.old) quote (event_from (neighbours_of config last quote)) }
+        × (lent_wrong (states config) (tables_of tables.old) ≡ false) }
+    ensures left { left_by rec result (tables_of tables.new)
+        ≡ counted_as config (memory_with rec (tables_of tables.old)) quote (event_from (neighbours_of config last quote)) }
+    ensures same_slices { SameSlices tables.old tables.new }
 {
     let found = quotes::inner::neighbours(config, last, quote);
     match found {
-        Neighbours::Skipped(kind) => skip_pair(rec, config, quote, kind),
-        Neighbours::Counted(pair) => count_pair(
-            rec,
-            stay,
-            moved,
-            move_half_ticks,
-            config,
-            quote,
-            pair,
-        ),
+        Err(kind) => skip_pair(rec, config, quote, kind),
+        Ok(pair) => count_pair(rec, tables, config, quote, pair),
     }
 }
 
 // A first quote.
-fn first_quote(rec: Record, config: MicroPriceConfig, quote: TopOfBook) -> Done
+fn first_quote(rec: Record, config: MicroPriceConfig, quote: TopOfBook) -> Result<Record, Refusal>
     requires { 1 ≤ config.tick_size }
-    ensures { result ≡ pick_done (check_quote config quote) rec (accepted rec.counters quote) }
+    ensures { result ≡ unless_refused (check_quote config quote) (accepted rec.counters quote) }
 {
-    let checked = quotes::inner::check_quote(config, quote);
-    let Check::Fine = checked else {
-        return Done {
-            answer: checked,
-            next: rec,
-        };
-    };
-    let counters = rec.counters;
-    accept(counters, quote)
+    quotes::inner::check_quote(config, quote)?;
+    Ok(accept(rec.counters, quote))
 }
 
 // The work of `observe` on a record by value.
 pub fn observe(
     rec: Record,
-    stay: &mut [u64],
-    moved: &mut [u64],
-    move_half_ticks: &mut [i64],
+    tables: &mut LentTables<'_>,
     config: MicroPriceConfig,
     quote: TopOfBook,
-) -> Done
-    ensures { leaves result.answer result.next stay.new moved.new move_half_ticks.new ≡ observed config (memory rec stay.old moved.old move_half_ticks.old) quote }
+) -> Result<Record, Refusal>
+    ensures left { left_by rec result (tables_of tables.new) ≡ observed config (memory_with rec (tables_of tables.old)) quote }
+    ensures same_slices { SameSlices tables.old tables.new }
 {
-    let lengths = check_table_lengths(config, stay.len(), moved.len(), move_half_ticks.len());
-    let Check::Fine = lengths else {
-        return Done {
-            answer: lengths,
-            next: rec,
-        };
-    };
-    let previous = rec.previous;
-    let Previous::Quoted(last) = previous else {
+    check_table_lengths(config, tables.view())?;
+    let Some(last) = rec.previous else {
         return first_quote(rec, config, quote);
     };
-    let judged = judge_pair(config, last, quote);
-    let Check::Fine = judged else {
-        return Done {
-            answer: judged,
-            next: rec,
-        };
-    };
-    next_quote(rec, stay, moved, move_half_ticks, config, last, quote)
-}
-
-fn zero_cells(t: &mut [u64])
-    ensures { t.new ≡ replicate (length t.old) 0 }
-{
-    let mut i = 0;
-    while i < t.len() {
-        t[i] = 0;
-        i += 1;
-    }
-}
-
-fn zero_totals(t: &mut [i64])
-    ensures { t.new ≡ replicate (length t.old) (pos 0) }
-{
-    let mut i = 0;
-    while i < t.len() {
-        t[i] = 0;
-        i += 1;
-    }
+    judge_pair(config, last, quote)?;
+    next_quote(rec, tables, config, last, quote)
 }
 
 // Counters of a new calibrator.
@@ -289,31 +216,17 @@ pub fn no_counters() -> Counters
     }
 }
 
-// The work of `new` on a record by value.
-pub fn new(
-    rec: Record,
-    stay: &mut [u64],
-    moved: &mut [u64],
-    move_half_ticks: &mut [i64],
-    config: MicroPriceConfig,
-) -> Done
-    ensures { leaves result.answer result.next stay.new moved.new move_half_ticks.new ≡ made config (memory rec stay.old moved.old move_half_ticks.old) }
+// The work of `new`: the record of a new calibrator.
+pub fn new(tables: &mut LentTables<'_>, config: MicroPriceConfig) -> Result<Record, Refusal>
+    ensures left { (rec : Record) → left_by rec result (tables_of tables.new) ≡ made config (memory_with rec (tables_of tables.old)) }
+    ensures same_slices { SameSlices tables.old tables.new }
 {
-    let lengths = check_table_lengths(config, stay.len(), moved.len(), move_half_ticks.len());
-    let Check::Fine = lengths else {
-        return Done {
-            answer: lengths,
-            next: rec,
-        };
-    };
-    zero_cells(stay);
-    zero_cells(moved);
-    zero_totals(move_half_ticks);
-    Done {
-        answer: Check::Fine,
-        next: Record {
-            previous: Previous::Nothing,
-            counters: no_counters(),
-        },
-    }
+    check_table_lengths(config, tables.view())?;
+    tables.stay.fill(0);
+    tables.moved.fill(0);
+    tables.move_half_ticks.fill(0);
+    Ok(Record {
+        previous: None,
+        counters: no_counters(),
+    })
 }

@@ -3,20 +3,15 @@
 
 use config::MicroPriceConfig;
 use quotes::TopOfBook;
-use refusals::Check;
+use refusals::Refusal;
+use tally::LentTables;
 
 pub mod inner;
 
 ghost use Rattle.std.specs.Prelude.{◌≡◌};
-ghost use Rattle.calibrator.specs.Record.{memory, leaves};
+ghost use Rattle.tally.specs.Lent.{tables_of, SameSlices};
+ghost use Rattle.calibrator.specs.Record.{memory_with, leaves};
 ghost use Rattle.calibrator.specs.Observe.{made, observed};
-
-// The last quote, if any.
-#[derive(Clone, Copy)]
-pub enum Previous {
-    Nothing,
-    Quoted(TopOfBook),
-}
 
 #[derive(Clone, Copy)]
 pub struct Counters {
@@ -33,44 +28,34 @@ pub struct Counters {
 // What a calibrator keeps beside its tables.
 #[derive(Clone, Copy)]
 pub struct Record {
-    pub previous: Previous,
+    // The last quote, if any.
+    pub previous: Option<TopOfBook>,
     pub counters: Counters,
-}
-
-// An answer with the record as it is left.
-#[derive(Clone, Copy)]
-pub struct Done {
-    pub answer: Check,
-    pub next: Record,
 }
 
 // Empties the record and zeroes the three tables.
 pub fn new(
     rec: &mut Record,
-    stay: &mut [u64],
-    moved: &mut [u64],
-    move_half_ticks: &mut [i64],
+    tables: &mut LentTables<'_>,
     config: MicroPriceConfig,
-) -> Check
-    ensures { leaves result rec.new stay.new moved.new move_half_ticks.new ≡ made config (memory rec.old stay.old moved.old move_half_ticks.old) }
+) -> Result<(), Refusal>
+    ensures left { leaves result rec.new (tables_of tables.new) ≡ made config (memory_with rec.old (tables_of tables.old)) }
+    ensures same_slices { SameSlices tables.old tables.new }
 {
-    let done = inner::new(*rec, stay, moved, move_half_ticks, config);
-    *rec = done.next;
-    done.answer
+    *rec = inner::new(tables, config)?;
+    Ok(())
 }
 
 // Adds the next quote.
 pub fn observe(
     rec: &mut Record,
-    stay: &mut [u64],
-    moved: &mut [u64],
-    move_half_ticks: &mut [i64],
+    tables: &mut LentTables<'_>,
     config: MicroPriceConfig,
     quote: TopOfBook,
-) -> Check
-    ensures { leaves result rec.new stay.new moved.new move_half_ticks.new ≡ observed config (memory rec.old stay.old moved.old move_half_ticks.old) quote }
+) -> Result<(), Refusal>
+    ensures left { leaves result rec.new (tables_of tables.new) ≡ observed config (memory_with rec.old (tables_of tables.old)) quote }
+    ensures same_slices { SameSlices tables.old tables.new }
 {
-    let done = inner::observe(*rec, stay, moved, move_half_ticks, config, quote);
-    *rec = done.next;
-    done.answer
+    *rec = inner::observe(*rec, tables, config, quote)?;
+    Ok(())
 }

@@ -2,158 +2,88 @@
 // tests/comparison/README.md describes; tests/comparison/make_evening_cases.sh says how the expected output is made.
 #![tactic(auto)]
 
-ghost use Rattle.std.specs.Prelude.{◌≡◌, ◌≤◌, length};
+ghost use Rattle.std.specs.Prelude.{◌≤◌};
 
-fn input_room() -> [u8; 16384]
-    ensures { 16384 ≡ length result }
-{
-    [0; 16384]
+// A byte more than the longest text that is no bad input has.
+const TEXT_BYTES: usize = 105129;
+
+// The text of a case, as far as its lines are read.
+#[derive(Drop)]
+struct Text {
+    bytes: [u8; TEXT_BYTES],
+    len: usize,
+    ghost within: { len ≤ 105129 },
 }
 
-// Room for a byte more than the longest text that is no bad input has.
-fn text_room() -> [u8; 105129]
-    ensures { 105129 ≡ length result }
-{
-    [0; 105129]
-}
-
-fn output_room() -> [u8; 4350]
-    ensures { 4350 ≡ length result }
-{
-    [0; 4350]
-}
-
-// Where the line that begins at `at` ends.
-fn line_end(input: &[u8], at: usize) -> usize
-    requires { at ≤ length input.now }
-    ensures { (at ≤ result) × (result ≤ length input.now) }
-{
-    let mut i = at;
-    while i < input.len() {
-        if input[i] == 10 {
-            return i;
-        }
-        i += 1;
-    }
-    i
-}
-
-// The number at the beginning of a line. No case has more than six digits.
-fn count_of(line: &[u8]) -> u64 {
-    let mut value: u64 = 0;
-    let mut i: usize = 0;
-    while i < line.len() {
-        let b = line[i];
-        if b == 32 {
-            return value;
-        }
-        value = value % 100_000 * 10 + (b % 48) as u64;
-        i += 1;
-    }
-    value
-}
-
-// The place after the first space of a line.
-fn after_space(line: &[u8]) -> usize
-    ensures { result ≤ length line.now }
-{
-    let mut i: usize = 0;
-    while i < line.len() {
-        i += 1;
-        if line[i - 1] == 32 {
-            return i;
+impl Text {
+    // Adds what the bytes of a case stand for, as far as there is room.
+    fn add(&mut self, part: &[u8]) {
+        for b in part {
+            if self.len < TEXT_BYTES {
+                self.bytes[self.len] = meant(*b);
+                self.len += 1;
+            }
         }
     }
-    i
 }
 
 // What a byte of a case stands for: | a newline, ^ a carriage return, ~ a tab.
 fn meant(b: u8) -> u8 {
-    if b == 124 {
-        return 10;
+    match b {
+        b'|' => b'\n',
+        b'^' => b'\r',
+        b'~' => b'\t',
+        _ => b,
     }
-    if b == 94 {
-        return 13;
-    }
-    if b == 126 {
-        return 9;
-    }
-    b
 }
 
-// Adds bytes to the n bytes of a text, as far as there is room.
-fn add(part: &[u8], text: &mut [u8], n: usize) -> usize
-    requires { n ≤ length text.old }
-    ensures { result ≤ length text.old }
-{
-    let mut k = n;
-    let mut i: usize = 0;
-    while i < part.len() {
-        if text.len() <= k {
-            return k;
+// The number at the beginning of a line, up to its first space. No case has more than six digits.
+fn count_of(line: &[u8]) -> u64 {
+    line.iter()
+        .take_while(|b| **b != b' ')
+        .fold(0, |value, b| value % 100_000 * 10 + u64::from(*b % 48))
+}
+
+// What stands behind the first space of a line.
+fn after_space(line: &[u8]) -> &[u8] {
+    match line.iter().position(|b| *b == b' ') {
+        Some(k) => &line[k + 1..],
+        None => &[],
+    }
+}
+
+// A line of a case: its name, which begins a new text; what is to be added to the text; or the end, where the text is run.
+fn run_line(rt: &impl Print, line: &[u8], text: &mut Text) {
+    match line.first() {
+        None => {}
+        Some(b'c') => {
+            let _ = rt.write_all(line);
+            let _ = rt.write_all(b"\n");
+            text.len = 0;
         }
-        text[k] = meant(part[i]);
-        k += 1;
-        i += 1;
+        Some(b'e') => show(rt, &text.bytes[..text.len]),
+        Some(_) => {
+            for _ in 0..count_of(line) {
+                text.add(after_space(line));
+            }
+        }
     }
-    k
-}
-
-// The same, many times.
-fn add_times(times: u64, part: &[u8], text: &mut [u8], n: usize) -> usize
-    requires { n ≤ length text.old }
-    ensures { result ≤ length text.old }
-{
-    let mut k = n;
-    let mut i: u64 = 0;
-    while i < times {
-        k = add(part, text, k);
-        i += 1;
-    }
-    k
-}
-
-// A line of a case: its name, which begins a new text; what is to be added to the text; or the end, where the text is run. Answers how long the text then is.
-fn run_line(rt: &impl Print, line: &[u8], text: &mut [u8], n: usize) -> usize
-    requires { n ≤ length text.old }
-    ensures { result ≤ length text.old }
-{
-    if line.len() == 0 {
-        return n;
-    }
-    let b = line[0];
-    if b == 99 {
-        let _ = rt.write_all(line);
-        let _ = rt.write_all(b"\n");
-        return 0;
-    }
-    if b == 101 {
-        show(rt, &text[..n]);
-        return n;
-    }
-    let at = after_space(line);
-    add_times(count_of(line), &line[at..], text, n)
 }
 
 fn show(rt: &impl Print, text: &[u8]) {
-    let mut out = output_room();
+    let mut out = [0; program_report::MOST_BYTES];
     let n = program_report::evening_text(text, &mut out);
     let _ = rt.write_all(&out[..n]);
 }
 
-fn run_all(rt: &impl Print, input: &[u8], text: &mut [u8]) {
-    let mut n: usize = 0;
-    let mut at: usize = 0;
-    while at < input.len() {
-        let end = line_end(input, at);
-        n = run_line(rt, &input[at..end], text, n);
-        at = end + 1;
-    }
-}
-
 fn main(rt: HostRuntime) {
-    let mut input = input_room();
-    let mut text = text_room();
+    let mut input = [0; 16384];
     let got = cases_shared::reading::read_full(&mut rt.stdin(), &mut input);
-    run_all(&rt, &input[..got], &mut text);
+    let mut text = Text {
+        bytes: [0; TEXT_BYTES],
+        len: 0,
+    };
+    for line in input[..got].split(|b| *b == b'\n') {
+        run_line(&rt, line, &mut text);
+    }
 }

@@ -7,10 +7,11 @@ use lib.Dec.{T}
 use lib.ListN.{replicate}
 use Rattle.basics.proofs.Tests.{both}
 use Rattle.config.specs.Configuration.{states, config_words}
-use Rattle.calibrator.specs.declared.Previous.TheVariants.{Quoted}
+use Rattle.std.specs.Prelude.{Some}
 use Rattle.image_words.proofs.Words.{are_words, words-by}
 use Rattle.image_layout.specs.Layout.{header, header_in, previous_words}
-use Rattle.image.specs.Image.{restored, lent_wrong}
+use Rattle.image.specs.Image.{restored}
+use Rattle.calibrator.specs.Observe.{lent_wrong}
 use Rattle.history.specs.Calls.{Call, quote, save, restore, ConfigWords, OwnImages, Proper, Past, new_past, history_act, returns, is_some, is_refused}
 use Rattle.history_replay.specs.Replay.{calls_from, calls_made, replayed, OwnCalls}
 use Rattle.cases_replay.specs.Journal.{setup, journal, start, first_part, later_part, between}
@@ -18,13 +19,13 @@ use Rattle.cases_replay.specs.Journal.{setup, journal, start, first_part, later_
 -- ---- the proviso as a test
 
 abbrev is_proper : Past → Call → Bool
-is_proper P (quote q) = are_words (previous_words (Quoted q))
+is_proper P (quote q) = are_words (previous_words (Some q))
 is_proper P (save out) = true
 is_proper P (restore b lent) =
     (not (lent_wrong (states setup) lent.counts.tables) && is_some (returns setup P b)) || is_refused (restored b lent).answer
 
 proper-by : (P : Past) (k : Call) → is_proper P k ≡ true → Proper setup P k
-proper-by P (quote q) e = words-by (previous_words (Quoted q)) e
+proper-by P (quote q) e = words-by (previous_words (Some q)) e
 proper-by P (save out) e = tt
 proper-by P (restore b lent) e = subst T (sym e) tt
 

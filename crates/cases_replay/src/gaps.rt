@@ -3,8 +3,8 @@
 use crate::empty;
 use calibrator::Record;
 use config::MicroPriceConfig;
-use image::Restored;
 use quotes::TopOfBook;
+use tally::LentTables;
 
 fn quote_at(timestamp_ms: u64) -> TopOfBook {
     TopOfBook {
@@ -16,17 +16,12 @@ fn quote_at(timestamp_ms: u64) -> TopOfBook {
     }
 }
 
-fn show_word(rt: &impl Print, name: &str, w: u64) {
-    let _ = print!(rt; "{name}{w}");
-}
-
 fn show_line(rt: &impl Print, config: MicroPriceConfig, pause: u64, rec: Record) {
+    let gap = config.max_quote_gap_ms;
     let counters = rec.counters;
-    show_word(rt, "gap ", config.max_quote_gap_ms);
-    show_word(rt, " pause ", pause);
-    show_word(rt, " pairs ", counters.pairs);
-    show_word(rt, " gap skips ", counters.skipped_gap_pairs);
-    let _ = rt.println("");
+    let pairs = counters.pairs;
+    let skips = counters.skipped_gap_pairs;
+    let _ = println!(rt; "gap {gap} pause {pause} pairs {pairs} gap skips {skips}");
 }
 
 // The one configuration of this program that names no gap.
@@ -35,22 +30,11 @@ fn by_default() -> MicroPriceConfig {
 }
 
 // A new calibrator's record after its first quote.
-fn after_first(
-    stay: &mut [u64],
-    moved: &mut [u64],
-    move_half_ticks: &mut [i64],
-    config: MicroPriceConfig,
-) -> Record {
-    let made = calibrator::inner::new(empty(), stay, moved, move_half_ticks, config);
-    let first = calibrator::inner::observe(
-        made.next,
-        stay,
-        moved,
-        move_half_ticks,
-        config,
-        quote_at(0),
-    );
-    first.next
+fn after_first(tables: &mut LentTables<'_>, config: MicroPriceConfig) -> Record {
+    let mut rec = empty();
+    let _ = calibrator::new(&mut rec, tables, config);
+    let _ = calibrator::observe(&mut rec, tables, config, quote_at(0));
+    rec
 }
 
 // The pause under the default gap.
@@ -58,17 +42,15 @@ fn show_default(rt: &impl Print, pause: u64) {
     let mut stay = [0; 36];
     let mut moved = [0; 36];
     let mut move_half_ticks = [0; 6];
+    let mut tables = LentTables {
+        stay: &mut stay,
+        moved: &mut moved,
+        move_half_ticks: &mut move_half_ticks,
+    };
     let config = by_default();
-    let rec = after_first(&mut stay, &mut moved, &mut move_half_ticks, config);
-    let second = calibrator::inner::observe(
-        rec,
-        &mut stay,
-        &mut moved,
-        &mut move_half_ticks,
-        config,
-        quote_at(pause),
-    );
-    show_line(rt, config, pause, second.next);
+    let mut rec = after_first(&mut tables, config);
+    let _ = calibrator::observe(&mut rec, &mut tables, config, quote_at(pause));
+    show_line(rt, config, pause, rec);
 }
 
 // The image of a calibrator under a gap of 60,000, after its first quote.
@@ -76,10 +58,15 @@ fn saved() -> [u8; 784] {
     let mut stay = [0; 36];
     let mut moved = [0; 36];
     let mut move_half_ticks = [0; 6];
+    let mut tables = LentTables {
+        stay: &mut stay,
+        moved: &mut moved,
+        move_half_ticks: &mut move_half_ticks,
+    };
     let config = by_default().with_max_quote_gap_ms(60_000);
-    let rec = after_first(&mut stay, &mut moved, &mut move_half_ticks, config);
+    let rec = after_first(&mut tables, config);
     let mut out = [0; 784];
-    image::inner::save(rec, &stay, &moved, &move_half_ticks, config, &mut out);
+    let _ = image::save(&rec, tables.view(), config, &mut out);
     out
 }
 
@@ -88,21 +75,17 @@ fn show_carried(rt: &impl Print, gap: u64, pause: u64) {
     let mut stay = [0; 36];
     let mut moved = [0; 36];
     let mut move_half_ticks = [0; 6];
+    let mut tables = LentTables {
+        stay: &mut stay,
+        moved: &mut moved,
+        move_half_ticks: &mut move_half_ticks,
+    };
     let mut image = saved();
     image_words::put_word(&mut image, 40, gap);
-    let done = image::inner::restore(empty(), &image, &mut stay, &mut moved, &mut move_half_ticks);
-    let answer = done.answer;
-    if let Restored::Config(config) = answer {
-        let rec = done.next;
-        let second = calibrator::inner::observe(
-            rec,
-            &mut stay,
-            &mut moved,
-            &mut move_half_ticks,
-            config,
-            quote_at(pause),
-        );
-        show_line(rt, config, pause, second.next);
+    let mut rec = empty();
+    if let Ok(config) = image::restore(&mut rec, &image, &mut tables) {
+        let _ = calibrator::observe(&mut rec, &mut tables, config, quote_at(pause));
+        show_line(rt, config, pause, rec);
     }
 }
 

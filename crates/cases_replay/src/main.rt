@@ -5,9 +5,10 @@
 ghost use Rattle.std.specs.Prelude.{◌≡◌};
 ghost use Rattle.cases_replay.specs.Journal as Journal;
 
-use calibrator::{Previous, Record};
+use calibrator::Record;
 use config::MicroPriceConfig;
-use history_replay::Replayed;
+use history_replay::BadEncoding;
+use tally::{LentTables, TablesView};
 
 mod gaps;
 
@@ -36,7 +37,7 @@ fn journal() -> [u64; 102]
 
 fn empty() -> Record {
     Record {
-        previous: Previous::Nothing,
+        previous: None,
         counters: calibrator::inner::no_counters(),
     }
 }
@@ -44,83 +45,65 @@ fn empty() -> Record {
 // The words of the image of a new calibrator with a gap of 2000.
 fn other_image() -> [u64; 41] {
     let other = setup().with_max_quote_gap_ms(2000);
-    let stay = [0; 9];
-    let moved = [0; 9];
-    let move_half_ticks = [0; 3];
+    let tables = TablesView {
+        stay: &[0; 9],
+        moved: &[0; 9],
+        move_half_ticks: &[0; 3],
+    };
     let mut out = [0; 328];
-    image::inner::save(empty(), &stay, &moved, &move_half_ticks, other, &mut out);
+    let _ = image::save(&empty(), tables, other, &mut out);
     let mut words = [0; 41];
     image_words::get_table(&out, 0, &mut words);
     words
 }
 
 // Numbers, each on a line.
-fn show(rt: &impl Print, s: &[u64]) {
-    let mut i = 0;
-    while i < s.len() {
-        let _ = rt.println(s[i]);
-        i += 1;
+fn show(rt: &impl Print, numbers: &[u64]) {
+    for number in numbers {
+        let _ = rt.println(*number);
     }
 }
 
-fn show_end(rt: &impl Print, r: Replayed) {
-    match r {
-        Replayed::Done => {
-            let _ = rt.println("done");
-        }
-        Replayed::BadEncoding => {
-            let _ = rt.println("bad encoding");
-        }
-    }
+fn show_end(rt: &impl Print, answer: Result<(), BadEncoding>) {
+    let said = if answer.is_ok() {
+        "done"
+    } else {
+        "bad encoding"
+    };
+    let _ = rt.println(said);
 }
 
 fn main(rt: HostRuntime) {
     let mut stay = [0; 9];
     let mut moved = [0; 9];
     let mut move_half_ticks = [0; 3];
+    let mut tables = LentTables {
+        stay: &mut stay,
+        moved: &mut moved,
+        move_half_ticks: &mut move_half_ticks,
+    };
     let mut room = [0; 984];
     let mut answers = [0; 17];
     let mut words = [0; 82];
     image_words::put_table(&mut room, 656, &other_image());
     let calls = journal();
-    let made = calibrator::inner::new(
-        empty(),
-        &mut stay,
-        &mut moved,
-        &mut move_half_ticks,
-        setup(),
-    );
-    let rec = made.next;
-    let done = history_replay::inner::replay(
-        rec,
-        &mut stay,
-        &mut moved,
-        &mut move_half_ticks,
+    let mut rec = empty();
+    let _ = calibrator::new(&mut rec, &mut tables, setup());
+    let end = history_replay::replay(
+        &mut rec,
+        &mut tables,
         setup(),
         &calls,
         &mut room,
         &mut answers,
     );
-    let end = done.answer;
     show_end(&rt, end);
     show(&rt, &answers);
     image_words::get_table(&room, 0, &mut words);
     show(&rt, &words);
-    let next = done.next;
-    let odd = [3; 6];
     let mut one = [7; 1];
-    let bad = history_replay::inner::replay(
-        next,
-        &mut stay,
-        &mut moved,
-        &mut move_half_ticks,
-        setup(),
-        &odd,
-        &mut room,
-        &mut one,
-    );
-    let answer = bad.answer;
-    show_end(&rt, answer);
+    let bad = history_replay::replay(&mut rec, &mut tables, setup(), &[3; 6], &mut room, &mut one);
+    show_end(&rt, bad);
     show(&rt, &one);
     gaps::show_all(&rt);
 }

@@ -2,17 +2,17 @@
 // whose form tests/comparison/make_sample.sh describes. Where a function has a `requires`, each caller proves it.
 #![tactic(auto)]
 
-ghost use Rattle.std.specs.Prelude.{◌<◌, ◌≤◌, length};
+ghost use Rattle.std.specs.Prelude.{◌≤◌};
 
 use calibrator::Record;
 use cases_shared::reading::{config_of, count_at, read_full, word_at};
-use cases_shared::showing::{show, show_after, show_before};
+use cases_shared::showing::{show, show_after, show_all, show_before};
 use cases_shared::tables::record_of;
 use config::MicroPriceConfig;
-use evening::Evening;
-use image::{RestoreDone, Restored};
-use recording::Window;
-use refusals::Check;
+use evening::Counted;
+use image::Restored;
+use refusals::Refusal;
+use tally::{LentTables, TablesView};
 
 mod models;
 
@@ -24,7 +24,7 @@ fn show_made(rt: &impl Print, words: &[u64]) {
     let mut held = [0; config::inner::CONFIG_WORDS];
     config::inner::put_config(&mut held, made);
     show(rt, held[0]);
-    cases_shared::showing::show_all_after(rt, &held[1..]);
+    show_all(rt, " ", &held[1..], "");
 }
 
 // ---- cases 5, 6 and 7
@@ -46,14 +46,13 @@ fn run_window(rt: &impl Print, words: &[u64]) {
     if past <= words.len() {
         let start = word_at(words, 1);
         let end = word_at(words, 2);
-        let found = recording::window_of(&words[4..past], start, end);
-        match found {
-            Window::Part(ends) => {
+        match recording::window_of(&words[4..past], start, end) {
+            Ok(ends) => {
                 show(rt, 0);
                 show_after(rt, ends.first as u64);
                 show_after(rt, ends.past as u64);
             }
-            Window::Refused(refusal) => show(rt, refusals::number_of(refusal)),
+            Err(refusal) => show(rt, refusal.number()),
         }
     }
 }
@@ -64,71 +63,45 @@ fn run_window(rt: &impl Print, words: &[u64]) {
 fn show_record(rt: &impl Print, rec: Record) {
     let mut ten = [0; 10];
     abi_encoding::put_record(&mut ten, rec);
-    cases_shared::showing::show_all_before(rt, &ten);
+    show_all(rt, "", &ten, " ");
 }
 
 // Gives the quotes whose number is word `at` to the calibrator, and shows each answer and the calibrator that is left.
 fn show_quotes(
     rt: &impl Print,
-    rec: Record,
+    mut rec: Record,
     n: usize,
-    stay: &mut [u64],
-    moved: &mut [u64],
-    move_half_ticks: &mut [i64],
+    tables: &mut LentTables<'_>,
     config: MicroPriceConfig,
     words: &[u64],
     at: usize,
 )
     requires { at ≤ 4200 }
 {
-    let count = count_at(words, at);
-    let mut next = rec;
-    let mut i: usize = 0;
-    while i < count {
+    for i in 0..count_at(words, at) {
         let quote = cases_shared::reading::quote_at(words, at + 1 + 5 * i);
-        let done = calibrator::inner::observe(next, stay, moved, move_half_ticks, config, quote);
-        let answer = done.answer;
-        next = done.next;
+        let answer = calibrator::observe(&mut rec, tables, config, quote);
         show_before(rt, refusals::check_number(answer));
-        i += 1;
     }
-    show_record(rt, next);
-    cases_shared::showing::show_entries(rt, n, stay, moved, move_half_ticks);
+    show_record(rt, rec);
+    cases_shared::showing::show_entries(rt, n, tables.view());
 }
 
-fn run_new(
-    rt: &impl Print,
-    words: &[u64],
-    n: usize,
-    stay: &mut [u64],
-    moved: &mut [u64],
-    move_half_ticks: &mut [i64],
-) {
+fn run_new(rt: &impl Print, words: &[u64], n: usize, tables: &mut LentTables<'_>) {
     let config = config_of(words);
-    let made = calibrator::inner::new(record_of(0), stay, moved, move_half_ticks, config);
-    show_quotes(
-        rt,
-        made.next,
-        n,
-        stay,
-        moved,
-        move_half_ticks,
-        config,
-        words,
-        6,
-    );
+    let mut rec = record_of(0);
+    let _ = calibrator::new(&mut rec, tables, config);
+    show_quotes(rt, rec, n, tables, config, words, 6);
 }
 
 // Restores an image into emptied tables.
 fn restore(
     config: MicroPriceConfig,
     bytes: &[u8],
-    stay: &mut [u64],
-    moved: &mut [u64],
-    move_half_ticks: &mut [i64],
-) -> RestoreDone {
-    calibrator::inner::new(record_of(0), stay, moved, move_half_ticks, config);
-    image::inner::restore(record_of(0), bytes, stay, moved, move_half_ticks)
+    tables: &mut LentTables<'_>,
+) -> Result<Restored, Refusal> {
+    let _ = calibrator::inner::new(tables, config);
+    image::inner::restore(bytes, tables)
 }
 
 // Restores an image, and gives the calibrator the quotes of the case.
@@ -137,29 +110,15 @@ fn restore_and_quote(
     words: &[u64],
     n: usize,
     bytes: &[u8],
-    stay: &mut [u64],
-    moved: &mut [u64],
-    move_half_ticks: &mut [i64],
+    tables: &mut LentTables<'_>,
 ) {
-    let done = restore(config_of(words), bytes, stay, moved, move_half_ticks);
-    let answer = done.answer;
-    match answer {
-        Restored::Config(config) => {
+    match restore(config_of(words), bytes, tables) {
+        Ok(taken) => {
             show_before(rt, 0);
             let at = 17 + 4 * count_at(words, 16);
-            show_quotes(
-                rt,
-                done.next,
-                n,
-                stay,
-                moved,
-                move_half_ticks,
-                config,
-                words,
-                at,
-            );
+            show_quotes(rt, taken.rec, n, tables, taken.config, words, at);
         }
-        Restored::Refused(refusal) => show(rt, refusals::number_of(refusal)),
+        Err(refusal) => show(rt, refusal.number()),
     }
 }
 
@@ -169,48 +128,30 @@ fn run_image(
     words: &[u64],
     n: usize,
     bytes: &mut [u8],
-    stay: &mut [u64],
-    moved: &mut [u64],
-    move_half_ticks: &mut [i64],
+    tables: &mut LentTables<'_>,
 )
     requires { n ≤ 255 }
 {
-    cases_shared::tables::fill(words, 16, n, stay, moved, move_half_ticks);
-    cases_shared::tables::put_image(words, n, stay, moved, move_half_ticks, bytes);
-    restore_and_quote(rt, words, n, bytes, stay, moved, move_half_ticks);
+    cases_shared::tables::fill(words, 16, n, tables);
+    cases_shared::tables::put_image(words, n, tables.view(), bytes);
+    restore_and_quote(rt, words, n, bytes, tables);
 }
 
 // There is room for an image of 27 states.
-fn run_restore(
-    rt: &impl Print,
-    words: &[u64],
-    n: usize,
-    stay: &mut [u64],
-    moved: &mut [u64],
-    move_half_ticks: &mut [i64],
-)
+fn run_restore(rt: &impl Print, words: &[u64], n: usize, tables: &mut LentTables<'_>)
     requires { n ≤ 255 }
 {
     let mut image = [0; 12040];
     let size = cases_shared::tables::image_length(n);
     if size <= 12040 {
-        run_image(
-            rt,
-            words,
-            n,
-            &mut image[..size],
-            stay,
-            moved,
-            move_half_ticks,
-        );
+        run_image(rt, words, n, &mut image[..size], tables);
     }
 }
 
 // The table of a fit that is not refused.
-fn show_table(rt: &impl Print, answer: Check, model: &[u64]) {
-    match answer {
-        Check::Fine => cases_shared::showing::show_all_after(rt, model),
-        Check::Refused(_) => {}
+fn show_table(rt: &impl Print, answer: Result<(), Refusal>, model: &[u64]) {
+    if answer.is_ok() {
+        show_all(rt, " ", model, "");
     }
 }
 
@@ -218,18 +159,15 @@ fn run_fit(
     rt: &impl Print,
     words: &[u64],
     n: usize,
-    stay: &mut [u64],
-    moved: &mut [u64],
-    move_half_ticks: &mut [i64],
+    tables: &mut LentTables<'_>,
     scratch: &mut [f64],
     model: &mut [u64],
 )
     requires { n ≤ 255 }
 {
-    cases_shared::tables::fill(words, 7, n, stay, moved, move_half_ticks);
+    cases_shared::tables::fill(words, 7, n, tables);
     let rec = record_of(word_at(words, 6));
-    let config = config_of(words);
-    let answer = fit::inner::fit_counts(rec, stay, moved, move_half_ticks, config, scratch, model);
+    let answer = fit::fit_counts(&rec, tables.view(), config_of(words), scratch, model);
     show(rt, refusals::check_number(answer));
     show_table(rt, answer, model);
 }
@@ -237,24 +175,21 @@ fn run_fit(
 // The answer of an evening, and the calibrator and the table that it leaves.
 fn show_evening(
     rt: &impl Print,
-    answer: Evening,
+    answer: Result<Counted, Refusal>,
     rec: Record,
     n: usize,
-    stay: &[u64],
-    moved: &[u64],
-    move_half_ticks: &[i64],
+    tables: TablesView<'_>,
     model: &[u64],
 ) {
     match answer {
-        Evening::Fitted(counted) => {
-            let fitted = counted.answer;
-            show_before(rt, refusals::check_number(fitted));
+        Ok(counted) => {
+            show_before(rt, refusals::check_number(counted.answer));
             show_before(rt, counted.invalid);
             show_record(rt, rec);
-            cases_shared::showing::show_entries(rt, n, stay, moved, move_half_ticks);
-            show_table(rt, fitted, model);
+            cases_shared::showing::show_entries(rt, n, tables);
+            show_table(rt, counted.answer, model);
         }
-        Evening::Refused(refusal) => show(rt, refusals::number_of(refusal)),
+        Err(refusal) => show(rt, refusal.number()),
     }
 }
 
@@ -262,19 +197,16 @@ fn run_evening(
     rt: &impl Print,
     words: &[u64],
     n: usize,
-    stay: &mut [u64],
-    moved: &mut [u64],
-    move_half_ticks: &mut [i64],
+    tables: &mut LentTables<'_>,
     scratch: &mut [f64],
     model: &mut [u64],
 ) {
     let past = 9 + 5 * count_at(words, 8);
     if past <= words.len() {
-        let done = evening::inner::calibrate_micro_price(
-            record_of(0),
-            stay,
-            moved,
-            move_half_ticks,
+        let mut rec = record_of(0);
+        let answer = evening::calibrate_micro_price(
+            &mut rec,
+            tables,
             config_of(words),
             &words[9..past],
             word_at(words, 6),
@@ -282,17 +214,7 @@ fn run_evening(
             scratch,
             model,
         );
-        let answer = done.answer;
-        show_evening(
-            rt,
-            answer,
-            done.next,
-            n,
-            stay,
-            moved,
-            move_half_ticks,
-            model,
-        );
+        show_evening(rt, answer, rec, n, tables.view(), model);
     }
 }
 
@@ -301,23 +223,17 @@ fn run_on(
     rt: &impl Print,
     words: &[u64],
     n: usize,
-    stay: &mut [u64],
-    moved: &mut [u64],
-    move_half_ticks: &mut [i64],
+    tables: &mut LentTables<'_>,
     scratch: &mut [f64],
     model: &mut [u64],
 )
     requires { n ≤ 255 }
 {
-    let kind = word_at(words, 0);
-    if kind == 2 {
-        run_new(rt, words, n, stay, moved, move_half_ticks);
-    } else if kind == 3 {
-        run_restore(rt, words, n, stay, moved, move_half_ticks);
-    } else if kind == 4 {
-        run_fit(rt, words, n, stay, moved, move_half_ticks, scratch, model);
-    } else {
-        run_evening(rt, words, n, stay, moved, move_half_ticks, scratch, model);
+    match word_at(words, 0) {
+        2 => run_new(rt, words, n, tables),
+        3 => run_restore(rt, words, n, tables),
+        4 => run_fit(rt, words, n, tables, scratch, model),
+        _ => run_evening(rt, words, n, tables, scratch, model),
     }
 }
 
@@ -331,13 +247,16 @@ fn run_tables(rt: &impl Print, words: &[u64]) {
     let n = cases_shared::tables::states_of(words);
     let cells = cases_shared::tables::product(n, n);
     let floats = cases_shared::tables::product(n, 2 * n + 10);
+    let mut tables = LentTables {
+        stay: &mut stay[..cells],
+        moved: &mut moved[..cells],
+        move_half_ticks: &mut move_half_ticks[..n],
+    };
     run_on(
         rt,
         words,
         n,
-        &mut stay[..cells],
-        &mut moved[..cells],
-        &mut move_half_ticks[..n],
+        &mut tables,
         &mut scratch[..floats],
         &mut model[..7 * n],
     );
@@ -346,41 +265,29 @@ fn run_tables(rt: &impl Print, words: &[u64]) {
 // ---- all cases
 
 fn run_case(rt: &impl Print, words: &[u64]) {
-    let kind = word_at(words, 0);
-    if kind == 1 {
-        show(rt, refusals::check_number(config_of(words).validate()));
-    } else if (kind == 5) | (kind == 6) {
-        run_models(rt, words);
-    } else if kind == 7 {
-        run_window(rt, words);
-    } else if kind == 9 {
-        show_made(rt, words);
-    } else {
-        run_tables(rt, words);
+    // A word of the case's text, matched once.
+    match word_at(words, 0) {
+        1 => show(rt, refusals::check_number(config_of(words).validate())),
+        5 | 6 => run_models(rt, words),
+        7 => run_window(rt, words),
+        9 => show_made(rt, words),
+        _ => run_tables(rt, words),
     }
     let _ = rt.println("");
 }
 
-// Runs the case whose line begins at `at`; there is room for the longest. Answers where the next line begins.
-fn run(rt: &impl Print, text: &[u8], at: usize) -> usize
-    ensures { at < length text.now → at < result }
-{
+// Runs the case of a line; there is room for the longest.
+fn run(rt: &impl Print, line: &[u8]) {
     let mut words = [0; 2200];
-    let next = cases_shared::reading::read_line(text, at, &mut words);
+    cases_shared::reading::read_line(line, &mut words);
     run_case(rt, &words);
-    next
-}
-
-fn run_all(rt: &impl Print, text: &[u8]) {
-    let mut at: usize = 0;
-    while at < text.len() {
-        at = run(rt, text, at);
-    }
 }
 
 // There is room for all cases.
 fn main(rt: HostRuntime) {
     let mut input = [0; 144698];
     let got = read_full(&mut rt.stdin(), &mut input);
-    run_all(&rt, &input[..got]);
+    for line in input[..got].split_inclusive(|b| *b == b'\n') {
+        run(&rt, line);
+    }
 }

@@ -4,8 +4,8 @@ ghost use Rattle.std.specs.Prelude.{◌≤◌};
 use cases_shared::reading::{set_at, word_at};
 use cases_shared::showing::{show, show_after};
 use config::MicroPriceConfig;
-use model_signals::Signalled;
-use refusals::{Check, Refusal};
+use model_signals::MicroPriceSignal;
+use refusals::Refusal;
 
 // Writes the float whose upper and lower half are two words of a case.
 fn put_float(words: &[u64], from: usize, model: &mut [u64], to: usize)
@@ -40,34 +40,29 @@ fn put_row(words: &[u64], from: usize, model: &mut [u64], to: usize)
 pub fn put_model(words: &[u64], rows: usize, model: &mut [u64])
     requires { rows ≤ 15 }
 {
-    let mut i: usize = 0;
-    while i < rows {
+    for i in 0..rows {
         put_row(words, 7 + 10 * i, model, 7 * i);
-        i += 1;
     }
 }
 
 pub fn show_check(rt: &impl Print, config: MicroPriceConfig, model: &[u64]) {
     let checked = model_check::check_model(config, model);
     show(rt, refusals::check_number(checked));
-    if let Check::Refused(refusal) = checked {
-        if let Refusal::ModelRow(row) = refusal {
-            show_after(rt, row as u64);
-        }
+    if let Err(Refusal::ModelRow(row)) = checked {
+        show_after(rt, row as u64);
     }
 }
 
-fn show_signal(rt: &impl Print, answer: Signalled) {
+fn show_signal(rt: &impl Print, answer: Result<MicroPriceSignal, Refusal>) {
     match answer {
-        Signalled::Sent(s) => {
-            let source = s.source;
+        Ok(s) => {
             show(rt, 0);
             show_after(rt, s.timestamp_ms);
             show_after(rt, s.mid_sum);
             show_after(rt, floats::to_bits(s.adjustment));
-            show_after(rt, model_signals::inner::source_number(source));
+            show_after(rt, model_signals::inner::source_number(s.source));
         }
-        Signalled::Refused(refusal) => show(rt, refusals::number_of(refusal)),
+        Err(refusal) => show(rt, refusal.number()),
     }
 }
 
@@ -81,14 +76,11 @@ pub fn show_signals(
 )
     requires { at ≤ 4096 }
 {
-    let count = cases_shared::reading::count_at(words, at);
-    let mut i: usize = 0;
-    while i < count {
+    for i in 0..cases_shared::reading::count_at(words, at) {
         if i != 0 {
             let _ = rt.print(" ");
         }
         let quote = cases_shared::reading::quote_at(words, at + 1 + 5 * i);
         show_signal(rt, model_signals::signal(config, model, quote));
-        i += 1;
     }
 }

@@ -6,64 +6,47 @@ use quotes::TopOfBook;
 use std::io::Read;
 
 // Reads until the buffer is full, the input ends or a read fails. Answers how many bytes it put in front of the buffer.
+// A `while`: each read may put any number of bytes, and `read_exact` does not say how many came.
 pub fn read_full<R: Read>(reader: &mut R, buffer: &mut [u8]) -> usize
     ensures { result ≤ length buffer.new }
 {
     let mut done: usize = 0;
     while done < buffer.len() {
-        let Ok(n) = reader.read(&mut buffer[done..]) else {
-            return done;
-        };
-        if n == 0 {
-            return done;
+        match reader.read(&mut buffer[done..]) {
+            Ok(0) | Err(_) => return done,
+            Ok(n) => done += n,
         }
-        done += n;
     }
     done
 }
 
 // A word, or 0 past the end.
 pub fn word_at(words: &[u64], i: usize) -> u64 {
-    if i < words.len() {
-        return words[i];
-    }
-    0
+    words.get(i).copied().unwrap_or(0)
 }
 
-pub fn set_at(words: &mut [u64], i: usize, w: u64) {
+// Sets a word or a total, if it is there.
+pub fn set_at<T: Copy>(words: &mut [T], i: usize, w: T) {
     if i < words.len() {
         words[i] = w;
     }
 }
 
-// Appends a decimal digit, if b is one, to word k. No word of the cases has more than 19 digits.
-fn put_digit(words: &mut [u64], k: usize, b: u8) {
-    if (48 <= b) & (b <= 57) {
-        let w = word_at(words, k) % 1_000_000_000_000_000_000;
-        set_at(words, k, w * 10 + (b % 48) as u64);
-    }
+// The number that the digits among some bytes write. No word of the cases has more than 19.
+fn number_of(digits: &[u8]) -> u64 {
+    digits
+        .iter()
+        .filter(|b| b.is_ascii_digit())
+        .fold(0, |w, b| {
+            w % 1_000_000_000_000_000_000 * 10 + u64::from(*b % b'0')
+        })
 }
 
-// Reads a line into words that are 0. Answers where the next line begins.
-pub fn read_line(text: &[u8], at: usize, words: &mut [u64]) -> usize
-    ensures { at < length text.now → at < result }
-{
-    let mut i = at;
-    let mut k: usize = 0;
-    while i < text.len() {
-        let b = text[i];
-        if b == 10 {
-            return i + 1;
-        }
-        if b == 32 {
-            if k < words.len() {
-                k += 1;
-            }
-        }
-        put_digit(words, k, b);
-        i += 1;
+// Reads the words of a line, as far as there is room; the others stay.
+pub fn read_line(line: &[u8], words: &mut [u64]) {
+    for (word, digits) in words.iter_mut().zip(line.split(|b| *b == b' ')) {
+        *word = number_of(digits);
     }
-    i
 }
 
 // How many parts follow word i; no case has 1,024.

@@ -1,15 +1,17 @@
 // The tables and the image of a case. Where a function has a `requires`, each caller proves it.
-ghost use Rattle.std.specs.Prelude.{◌≡◌, ◌*◌, ◌<◌, ◌≤◌};
+ghost use Rattle.std.specs.Prelude.{◌≡◌, ◌*◌, ◌≤◌};
 
 use crate::reading::{count_at, set_at, word_at};
-use calibrator::{Previous, Record};
+use calibrator::Record;
+use image_words::Word;
+use tally::{LentTables, TablesView};
 
 // A record of so many pairs, before its first quote.
 pub fn record_of(pairs: u64) -> Record {
     let mut counters = calibrator::inner::no_counters();
     counters.pairs = pairs;
     Record {
-        previous: Previous::Nothing,
+        previous: None,
         counters,
     }
 }
@@ -30,29 +32,8 @@ pub fn states_of(words: &[u64]) -> usize
     product(n, s) % 256
 }
 
-// The word of minus v.
-pub fn minus(v: u64) -> u64 {
-    if v == 0 {
-        return 0;
-    }
-    18446744073709551615 - (v - 1)
-}
-
-fn set_total(move_half_ticks: &mut [i64], i: usize, w: u64) {
-    if i < move_half_ticks.len() {
-        image_words::set_word(move_half_ticks, i, w);
-    }
-}
-
 // Enters the quadruple of words from `at` on. Its last is the value: kind 0 in a cell of stay, 1 in one of moved, 2 as the total of i, 3 as its opposite.
-fn enter_at(
-    words: &[u64],
-    at: usize,
-    n: usize,
-    stay: &mut [u64],
-    moved: &mut [u64],
-    move_half_ticks: &mut [i64],
-)
+fn enter_at(words: &[u64], at: usize, n: usize, tables: &mut LentTables<'_>)
     requires { (at ≤ 65536) × (n ≤ 255) }
 {
     let kind = word_at(words, at);
@@ -60,33 +41,21 @@ fn enter_at(
     let j = (word_at(words, at + 2) % 256) as usize;
     let v = word_at(words, at + 3);
     let cell = product(n, i) + j;
-    if kind == 0 {
-        set_at(stay, cell, v);
-    } else if kind == 1 {
-        set_at(moved, cell, v);
-    } else if kind == 2 {
-        set_total(move_half_ticks, i, v);
-    } else {
-        set_total(move_half_ticks, i, minus(v));
+    // A word of the case's text, matched once: an enum would say each number and each case twice.
+    match kind {
+        0 => set_at(tables.stay, cell, v),
+        1 => set_at(tables.moved, cell, v),
+        2 => set_at(tables.move_half_ticks, i, v.cast_signed()),
+        _ => set_at(tables.move_half_ticks, i, v.wrapping_neg().cast_signed()),
     }
 }
 
 // Enters the entries whose number is word `at`.
-pub fn fill(
-    words: &[u64],
-    at: usize,
-    n: usize,
-    stay: &mut [u64],
-    moved: &mut [u64],
-    move_half_ticks: &mut [i64],
-)
+pub fn fill(words: &[u64], at: usize, n: usize, tables: &mut LentTables<'_>)
     requires { (at ≤ 16) × (n ≤ 255) }
 {
-    let count = count_at(words, at);
-    let mut q: usize = 0;
-    while q < count {
-        enter_at(words, at + 1 + 4 * q, n, stay, moved, move_half_ticks);
-        q += 1;
+    for q in 0..count_at(words, at) {
+        enter_at(words, at + 1 + 4 * q, n, tables);
     }
 }
 
@@ -114,19 +83,11 @@ pub fn image_length(n: usize) -> usize
 }
 
 // Writes a table, if it has room.
-fn put_table(image: &mut [u8], at: usize, table: &[u64])
+fn put_table<T: Word>(image: &mut [u8], at: usize, table: &[T])
     requires { at ≤ 1042600 }
 {
-    if at + 8 * table.len() <= image.len() {
+    if at <= image.len() && table.len() <= (image.len() - at) / 8 {
         image_words::put_table(image, at, table);
-    }
-}
-
-fn put_totals(image: &mut [u8], at: usize, move_half_ticks: &[i64])
-    requires { at ≤ 1042600 }
-{
-    if at + 8 * move_half_ticks.len() <= image.len() {
-        image_words::put_totals(image, at, move_half_ticks);
     }
 }
 
@@ -160,18 +121,11 @@ fn put_header(words: &[u64], n: usize, image: &mut [u8])
 }
 
 // Writes the image of case 3.
-pub fn put_image(
-    words: &[u64],
-    n: usize,
-    stay: &[u64],
-    moved: &[u64],
-    move_half_ticks: &[i64],
-    image: &mut [u8],
-)
+pub fn put_image(words: &[u64], n: usize, tables: TablesView<'_>, image: &mut [u8])
     requires { n ≤ 255 }
 {
     put_header(words, n, image);
-    put_table(image, image_layout::HEADER, stay);
-    put_table(image, moved_at(n), moved);
-    put_totals(image, totals_at(n), move_half_ticks);
+    put_table(image, image_layout::HEADER, tables.stay);
+    put_table(image, moved_at(n), tables.moved);
+    put_table(image, totals_at(n), tables.move_half_ticks);
 }

@@ -1,13 +1,15 @@
 -- The tests of a configuration give the facts of Valid.
 use Prim.Native.Nat.{ℕ, ◌*◌, ◌%◌, ◌≤◌, ◌<◌}
-use mathlib.Core.Path.{◌≡◌}
-use mathlib.Core.Bool.{true, false, ◌&&◌}
+use mathlib.Core.Path.{◌≡◌, refl}
+use mathlib.Core.Bool.{true, false, not, ◌&&◌}
 use mathlib.Core.Logic.{◌⊎◌, ⊎_elim}
 use native.Mathlib.Omega.{arith}
 use native.Mathlib.Nat.{le-mul_of_pos_right, mul_comm}
 use lib.Dec.{leb, eqb}
-use borrow.Author.Tests.{leb-true, eqb-true}
-use Rattle.config.specs.Configuration.{shape, valid}
+use borrow.Author.Tests.{leb-true, eqb-true, not-false}
+use Rattle.std.specs.Prelude.{Ok}
+use Rattle.refusals.proofs.Refusals.{if-fine}
+use Rattle.config.specs.Configuration.{shape, valid, check_config}
 use Rattle.config.specs.Inner.{Valid}
 use Rattle.config.specs.declared.MicroPriceConfig.{MicroPriceConfig}
 use Rattle.basics.proofs.Tests.{both, fails}
@@ -44,6 +46,10 @@ no-shape n s h =
     fails (shape n s)
     (λ e. let k = shape-known n s e in ⊎_elim (λ a. omega (arith, k.n-most)) (λ a. omega (arith, k.s-most)) h)
 
+-- what refusal 1 does not refuse is valid
+pub valid-unrefused : (c : MicroPriceConfig) → check_config c ≡ Ok tt → valid c ≡ true
+valid-unrefused c e = not-false (valid c) (if-fine (not (valid c)) 1 refl e)
+
 pub valid-known : (c : MicroPriceConfig) → valid c ≡ true → Valid c
 valid-known c e =
     let tick = c.tick_size in
@@ -67,3 +73,6 @@ valid-known c e =
       least-least = leb-true _ _ b.1;
       gap-least = leb-true _ _ a.1;
     }
+
+pub config-known : (c : MicroPriceConfig) → check_config c ≡ Ok tt → Valid c
+config-known c e = valid-known c (valid-unrefused c e)

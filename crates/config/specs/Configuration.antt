@@ -2,8 +2,7 @@
 use Rattle.std.specs.Prelude.{ℕ, ◌*◌, ◌%◌, Bool, not, ◌&&◌, List, [], ◌∷◌, leb, eqb, length, get_or}
 use Rattle.basics.specs.Domain.{most}
 use Rattle.basics.specs.Lists.{same_words}
-use Rattle.refusals.specs.Refusals.{refuse_if}
-use Rattle.refusals.specs.declared.Check.{Check}
+use Rattle.refusals.specs.Refusals.{refuse_if, Check}
 use Rattle.config.specs.declared.MicroPriceConfig.{MicroPriceConfig}
 
 -- tick, buckets and spread states alone take the defaults 100 and 5,000, which document 02, Q-5, puts in place of 01's 60,000

@@ -1,7 +1,7 @@
 // A configuration (document 01, "New, and one quote"): its defaults, and whether it is valid.
 #![tactic(auto)]
 
-use refusals::{Check, Refusal};
+use refusals::Refusal;
 
 pub mod inner;
 
@@ -9,7 +9,7 @@ ghost use Rattle.std.specs.Prelude.{◌≡◌};
 ghost use Rattle.config.specs.Configuration.{new_config, with_min_state_observations, with_max_quote_gap_ms, check_config};
 
 // Discretization and data rules of the estimator. Any words may stand in it; `validate` judges them.
-#[derive(Clone, Copy)]
+#[derive(Clone, Copy, Debug, PartialEq, Eq)]
 pub struct MicroPriceConfig {
     // Price grid, in units.
     pub tick_size: u64,
@@ -59,13 +59,13 @@ impl MicroPriceConfig {
     }
 
     // Refuses a configuration that is not valid.
-    pub fn validate(self) -> Check
+    pub fn validate(self) -> Result<(), Refusal>
         ensures { result ≡ check_config self }
     {
         if inner::is_valid(self) {
-            Check::Fine
+            Ok(())
         } else {
-            Check::Refused(Refusal::Configuration)
+            Err(Refusal::Configuration)
         }
     }
 }

@@ -1,16 +1,11 @@
--- What the check's answers rest on: a cell and its mirror's, mirrors of states alone, a table of mirrors, and the parts of 6.
-use Prim.Native.Nat.{ℕ, ◌+◌, ◌*◌, ◌≤◌, ◌<◌}
+-- What the check's answers rest on: mirrors of states alone, and a table of mirrors.
+use Prim.Native.Nat.{ℕ, ◌≤◌, ◌<◌}
 use mathlib.Core.Path.{◌≡◌, ap, ◌∙◌}
-use mathlib.Core.Bool.{Bool, false, not, ◌&&◌, ◌||◌, or-false, or_assoc}
+use mathlib.Core.Bool.{false, not}
 use mathlib.Core.List.{List}
 use native.Mathlib.Omega.{arith}
 use lib.ListN.{length, get_or}
-use borrow.Author.Tests.{ltb-false}
-use Rattle.basics.specs.Lists.{any}
-use Rattle.basics.proofs.Tests.{neither}
-use Rattle.basics.specs.Domain.{counter_limit}
-use Rattle.refusals.specs.Refusals.{refuse_if, first_of}
-use Rattle.refusals.specs.declared.Check.{Check}
+use Rattle.refusals.specs.Refusals.{refuse_if, first_of, Check}
 use Rattle.config.specs.Configuration.{states}
 use Rattle.config.specs.Inner.{Valid}
 use Rattle.config.specs.declared.MicroPriceConfig.{MicroPriceConfig}
@@ -18,17 +13,22 @@ use Rattle.quotes.specs.States.{mirror_of}
 use Rattle.quotes.proofs.States.{mirror-below}
 use Rattle.tally.specs.Entries.{Tables}
 use Rattle.tally.specs.Events.{Counts}
-use Rattle.tally.specs.Limits.{over_counter}
-use Rattle.calibrator.specs.Record.{skips_of}
-use Rattle.calibrator.specs.declared.Counters.{Counters}
-use Rattle.count_check.specs.Mirrors.{stored_over, total_mirrored, cells_alike, cell_mirrored, row_mirrored, check_state, is_twice, check_counts}
-use Rattle.count_check.specs.Inner.{counters_over, Mirrors}
+use Rattle.calibrator.specs.Observe.{lent_wrong}
+use Rattle.calibrator.proofs.Lengths.{lengths-known}
+use Rattle.count_check.specs.Mirrors.{stored_over, total_mirrored, cell_mirrored, row_mirrored, check_state, is_twice, check_counts}
+use Rattle.count_check.specs.Inner.{HasTables, Mirrors}
 use Rattle.count_check.proofs.Walks.{all-ext, first-ext}
 
--- two places that a row's walk compares
-pub cell-is : (N : ℕ) (mirror : ℕ → ℕ) (t : Tables) (i j x y : ℕ) (a b : Bool) → x ≡ i * N + j → y ≡ mirror i * N + mirror j → a ≡ cells_alike t.stay x y
-    → b ≡ cells_alike t.moved x y → (a && b) ≡ cell_mirrored N mirror t i j
-cell-is N mirror t i j x y a b ex ey ea eb = rw (ea, eb, ex, ey)
+-- tables of the configuration's lengths
+pub has-tables : (c : MicroPriceConfig) (t : Tables) → Valid c → lent_wrong (states c) t ≡ false → HasTables (states c) t
+has-tables c t v e =
+    let z = lengths-known (states c) _ _ _ e in
+    record {
+      few = v.states-most;
+      stay-cells = z.stay-cells;
+      moved-cells = z.moved-cells;
+      totals-cells = z.totals-cells;
+    }
 
 -- mirrors that agree on the states
 module _ (N : ℕ) (f g : ℕ → ℕ) (same : (i : ℕ) → i < N → f i ≡ g i) where
@@ -49,21 +49,6 @@ module _ (N : ℕ) (f g : ℕ → ℕ) (same : (i : ℕ) → i < N → f i ≡ g
 pub check-by : (n N : ℕ) (ms : List ℕ) (mirror : ℕ → ℕ) (k : Counts) (r : Check) → n ≡ N → ((i : ℕ) → i < N → get_or ms i 0 ≡ mirror i)
     → r ≡ check_counts n (λ i. get_or ms i 0) k → r ≡ check_counts N mirror k
 check-by n N ms mirror k r e same h = h ∙ rw e (check-ext N (λ i. get_or ms i 0) mirror same k)
-
--- 6 is of the counters, or of the totals
-pub stored_is : (k : Counters) (t : Bool) → (over_counter k.pairs || any over_counter (skips_of k) || t) ≡ (counters_over k || t)
-stored_is k t =
-    let a = over_counter k.pairs in
-    let b = over_counter k.skipped_spread_pairs in
-    let d = over_counter k.skipped_gap_pairs in
-    rw (or-false d, or_assoc a b d)
-
-pub pairs-most : (k : Counters) → counters_over k ≡ false → k.pairs ≤ counter_limit
-pairs-most k e =
-    let a = over_counter k.pairs in
-    let b = over_counter k.skipped_spread_pairs in
-    let d = over_counter k.skipped_gap_pairs in
-    ltb-false counter_limit k.pairs (neither a b (neither (a || b) d e).0).0
 
 -- the table of a configuration's mirrors
 pub mirrors-known : (c : MicroPriceConfig) (ms : List ℕ) → Valid c → 256 ≤ length ms

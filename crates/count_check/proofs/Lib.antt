@@ -1,4 +1,3 @@
-pub mod Totals
 pub mod Walks
 pub mod Sums
 pub mod Readings

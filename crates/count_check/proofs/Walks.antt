@@ -1,21 +1,13 @@
--- Walks by one: what is left of one, of tests at numbers and of a list's elements. Those of checks are in quotes.
+-- Walks by one over tests at numbers, and two walks over the same answers. Steps of a walk over checks are in refusals.
 use Prim.Native.Nat.{ℕ, zero, suc, ◌+◌, ◌-◌, ◌≤◌, ◌<◌}
-use mathlib.Core.Path.{◌≡◌, refl, ap, subst}
+use mathlib.Core.Path.{◌≡◌, refl, sym, subst}
 use mathlib.Core.Bool.{Bool, true, false, ◌&&◌}
-use mathlib.Core.List.{List}
 use mathlib.Core.Logic.{⊎_elim}
 use native.Mathlib.Omega.{arith}
 use native.Mathlib.Numerals.{add-one}
-use lib.ListN.{length, get_or, drop, drop_of_length-le}
-use lib.Seq.{drop-cons}
-use Rattle.basics.specs.Lists.{any, all_from}
-use Rattle.basics.proofs.Tests.{both, le-or-lt, still, gone}
-use Rattle.refusals.specs.Refusals.{first_of, first_from}
-use Rattle.refusals.specs.declared.Check.{Check}
-
--- what is left of m at the start
-pub whole : (m : ℕ) → m ≡ m - 0
-whole m = omega arith
+use Rattle.basics.specs.Lists.{all_from}
+use Rattle.basics.proofs.Tests.{both, le-or-lt, still, zero-not-one}
+use Rattle.refusals.specs.Refusals.{first_of, first_from, Check}
 
 module _ (p : ℕ → Bool) where
   pub all-step : (i m : ℕ) → i < m → p i ≡ true → all_from p i (m - i) ≡ all_from p (i + 1) (m - (i + 1))
@@ -23,9 +15,6 @@ module _ (p : ℕ → Bool) where
 
   pub all-stop : (i m : ℕ) → i < m → p i ≡ false → all_from p i (m - i) ≡ false
   all-stop i m h t = rw (still i m h, t)
-
-  pub all_end : (i m : ℕ) → m ≤ i → all_from p i (m - i) ≡ true
-  all_end i m h = rw (gone i m h)
 
   -- where all hold, each does
   pub all-at : (i n k : ℕ) → all_from p i n ≡ true → i ≤ k → k < i + n → p k ≡ true
@@ -36,15 +25,23 @@ module _ (p : ℕ → Bool) where
       (λ (g : i < k). all-at (suc i) n k b.1 (omega arith) (omega arith))
       (le-or-lt k i)
 
-module _ {A : Type 0} (p : A → Bool) (d : A) (l : List A) (n : ℕ) (e : length l ≡ n) where
-  pub any_step : (i : ℕ) → i < n → p (get_or l i d) ≡ false → any p (drop i l) ≡ any p (drop (i + 1) l)
-  any_step i h t = rw (drop-cons l i d (omega arith), t, add-one)
+module _ (p : ℕ → Bool) where
+  all-true : (i n : ℕ) → ((k : ℕ) → i ≤ k → k < i + n → p k ≡ true) → all_from p i n ≡ true
+  all-true i zero h = refl
+  all-true i (suc n) h = rw (h i (omega arith) (omega arith)) (all-true (suc i) n (λ k a b. h k (omega arith) (omega arith)))
 
-  pub any-stop : (i : ℕ) → i < n → p (get_or l i d) ≡ true → any p (drop i l) ≡ true
-  any-stop i h t = rw (drop-cons l i d (omega arith), t)
+  all-false : (n k : ℕ) → k < n → p k ≡ false → all_from p 0 n ≡ false
+  all-false n k l f = go (all_from p 0 n) refl
+    where
+      go : (b : Bool) → all_from p 0 n ≡ b → b ≡ false
+      go false e = refl
+      go true e = let t : p k ≡ true = all-at p 0 n k e (omega arith) (omega arith) in absurd (zero-not-one cc)
 
-  pub any-end : (i : ℕ) → n ≤ i → any p (drop i l) ≡ false
-  any-end i h = ap (any p) (drop_of_length-le l {i = i} (omega arith))
+  -- a test of all numbers below n
+  pub all-by : (n : ℕ) (r : Bool) → (r ≡ true → (k : ℕ) → k < n → p k ≡ true) → (r ≡ false → (k : ℕ) × (k < n) × (p k ≡ false))
+      → r ≡ all_from p 0 n
+  all-by n true h f = sym (all-true 0 n (λ k a b. h refl k (omega arith)))
+  all-by n false h f = sym (all-false n (f refl).0 (f refl).1 (f refl).2)
 
 -- walks over the same answers
 pub all-ext : (p q : ℕ → Bool) (i k : ℕ) → ((j : ℕ) → j < i + k → p j ≡ q j) → all_from p i k ≡ all_from q i k

@@ -1,8 +1,7 @@
 -- The check of counts against their mirrors: document 01, "The fit" (6, 9, 10, 11). Generic in the number of states and the mirror.
 use Rattle.std.specs.Prelude.{ℕ, ◌+◌, ◌*◌, Bool, false, not, ◌||◌, ◌&&◌, List, eqb, ℤ, pos, negsuc, neg_ℤ, get_or}
 use Rattle.basics.specs.Lists.{any, all_from, sum, cell_index}
-use Rattle.refusals.specs.Refusals.{refuse_if, first_of, first_from}
-use Rattle.refusals.specs.declared.Check.{Check}
+use Rattle.refusals.specs.Refusals.{refuse_if, first_of, first_from, Check}
 use Rattle.config.specs.Configuration.{states}
 use Rattle.config.specs.declared.MicroPriceConfig.{MicroPriceConfig}
 use Rattle.quotes.specs.States.{mirror_of}

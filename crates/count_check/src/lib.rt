@@ -2,234 +2,171 @@
 // Inner functions: for the crates above, not for users. Where one has a `requires`, each caller proves it.
 #![tactic(auto)]
 
-ghost use Rattle.std.specs.Prelude.{◌≡◌, true, false, [], ℕ, ◌+◌, ◌*◌, ◌≤◌, ◌<◌, min, pos, length, get_or};
+ghost use Rattle.std.specs.Prelude.{◌≡◌, ℕ, ◌+◌, ◌*◌, ◌≤◌, ◌<◌, min, pos, length, get_or};
 ghost use Rattle.basics.specs.Lists.{any, sum};
 ghost use Rattle.basics.specs.Domain.{counter_limit};
 ghost use Rattle.refusals.specs.Refusals.{first_from};
 ghost use Rattle.config.specs.Configuration.{states};
 ghost use Rattle.config.specs.Inner.{Valid};
 ghost use Rattle.quotes.specs.States.{mirror_of};
-ghost use Rattle.image_words.specs.Inner.{WordOf};
-ghost use Rattle.tally.specs.Entries.{tables, over_total};
+ghost use Rattle.tally.specs.Entries.{Tables, over_total};
+ghost use Rattle.tally.specs.Lent.{tables_in};
 ghost use Rattle.calibrator.specs.Record.{counts_of};
-ghost use Rattle.count_check.specs.Mirrors.{total_mirrored, cells_alike, row_mirrored, check_state, is_twice, check_counts, check_mirrored};
-ghost use Rattle.count_check.specs.Inner.{counters_over, cells_in, totals_in, tables_in, HasTable, HasTables, Mirrors, sum_cap, within_word, opposite_words};
+ghost use Rattle.count_check.specs.Mirrors.{total_mirrored, cell_mirrored, row_mirrored, check_state, is_twice, check_counts, check_mirrored};
+ghost use Rattle.count_check.specs.Inner.{counters_over, words_in, tables_in_bytes, HasTables, Mirrors};
 
 use basics::{CELL_LIMIT, COUNTER_LIMIT};
 use calibrator::Counters;
 use config::MicroPriceConfig;
 use quotes::inner::Level;
-use refusals::{Check, Refusal};
+use refusals::Refusal;
+use tally::TablesView;
 
-// The word of the least total, 2^64 − 2^53.
-const LEAST_TOTAL: u64 = u64::MAX - (CELL_LIMIT - 1);
+// The three tables of counts, wherever they lie.
+pub trait Counted {
+    ghost held: { Self → Tables };
 
-// Where sums are cut off: over twice any number of pairs within its limit.
-const SUM_CAP: u64 = 2 * COUNTER_LIMIT + 1;
+    fn stay_cell(&self, i: usize) -> u64
+        requires { i < length (held self.now).stay }
+        ensures { result ≡ get_or (held self.now).stay i 0 };
 
-// Cell i of a table, from the slice or, if imaged, from the bytes.
-fn cell_in(t: &[u64], b: &[u8], imaged: bool, n: usize, i: usize) -> u64
-    requires { HasTable imaged n (length t.now) (length b.now) × (i < n) }
-    ensures { result ≡ get_or (cells_in imaged t.now b.now) i 0 }
-{
-    if imaged {
-        return image_words::get_word(b, 8 * i);
+    fn moved_cell(&self, i: usize) -> u64
+        requires { i < length (held self.now).moved }
+        ensures { result ≡ get_or (held self.now).moved i 0 };
+
+    fn total(&self, i: usize) -> i64
+        requires { i < length (held self.now).totals }
+        ensures { result ≡ get_or (held self.now).totals i (pos 0) };
+}
+
+// Tables in lent slices.
+impl<'a> Counted for TablesView<'a> {
+    ghost held = { λ s. tables_in s };
+
+    fn stay_cell(&self, i: usize) -> u64 {
+        self.stay[i]
     }
-    t[i]
-}
 
-// Total i as its word.
-fn total_in(t: &[i64], b: &[u8], imaged: bool, n: usize, i: usize) -> u64
-    requires { HasTable imaged n (length t.now) (length b.now) × (i < n) }
-    ensures { WordOf result (get_or (totals_in imaged t.now b.now) i (pos 0)) }
-{
-    if imaged {
-        return image_words::get_word(b, 8 * i);
+    fn moved_cell(&self, i: usize) -> u64 {
+        self.moved[i]
     }
-    image_words::word_of(t, i)
-}
 
-fn is_within_word(w: u64) -> bool
-    ensures { result ≡ within_word w }
-{
-    (w <= CELL_LIMIT) | (LEAST_TOTAL <= w)
-}
-
-fn are_opposite(a: u64, b: u64) -> bool
-    ensures { result ≡ opposite_words a b }
-{
-    if a == 0 {
-        return b == 0;
+    fn total(&self, i: usize) -> i64 {
+        self.move_half_ticks[i]
     }
-    (a != 9223372036854775808) & (b == 18446744073709551615 - (a - 1))
 }
 
-fn totals_over(t: &[i64], b: &[u8], imaged: bool, n: usize) -> bool
-    requires { HasTable imaged n (length t.now) (length b.now) }
-    ensures { result ≡ any over_total (totals_in imaged t.now b.now) }
+// Tables in the bytes of an image, a part for each.
+#[derive(Clone, Copy)]
+pub struct Imaged<'a> {
+    pub stay: &'a [u8],
+    pub moved: &'a [u8],
+    pub move_half_ticks: &'a [u8],
+}
+
+fn word_in(bytes: &[u8], i: usize) -> u64
+    requires { i < length (words_in bytes.now) }
+    ensures { result ≡ get_or (words_in bytes.now) i 0 }
 {
-    let mut i: usize = 0;
-    while i < n {
-        if !is_within_word(total_in(t, b, imaged, n, i)) {
+    image_words::get_word(bytes, 8 * i)
+}
+
+impl<'a> Counted for Imaged<'a> {
+    ghost held = { λ s. tables_in_bytes s.stay.now s.moved.now s.move_half_ticks.now };
+
+    fn stay_cell(&self, i: usize) -> u64 {
+        word_in(self.stay, i)
+    }
+
+    fn moved_cell(&self, i: usize) -> u64 {
+        word_in(self.moved, i)
+    }
+
+    fn total(&self, i: usize) -> i64 {
+        word_in(self.move_half_ticks, i).cast_signed()
+    }
+}
+
+fn totals_over<S: Counted>(source: &S, n: usize) -> bool
+    requires { length (S.held source.now).totals ≡ n }
+    ensures { result ≡ any over_total (S.held source.now).totals }
+{
+    for i in 0..n {
+        if CELL_LIMIT < source.total(i).unsigned_abs() {
             return true;
         }
-        i += 1;
     }
     false
 }
 
-fn total_mirrored(t: &[i64], b: &[u8], imaged: bool, n: usize, i: usize, m: usize) -> bool
-    requires { HasTable imaged n (length t.now) (length b.now) × (i < n) × (m < n) }
-    ensures { result ≡ total_mirrored (totals_in imaged t.now b.now) i m }
+fn total_mirrored<S: Counted>(source: &S, i: usize, m: usize) -> bool
+    requires { (i < length (S.held source.now).totals) × (m < length (S.held source.now).totals) }
+    ensures { result ≡ total_mirrored (S.held source.now).totals i m }
 {
-    let x = total_in(t, b, imaged, n, i);
-    let y = total_in(t, b, imaged, n, m);
-    are_opposite(x, y)
+    source.total(i).checked_neg() == Some(source.total(m))
 }
 
-// A sum, or the cap where it is more than that.
-fn add_capped(a: u64, x: u64) -> u64
-    requires { a ≤ sum_cap }
-    ensures { result ≡ min sum_cap (a + x) }
+// The sum of all cells, or `u64::MAX` where it is more.
+fn sum_capped<S: Counted>(source: &S, cells: usize) -> u64
+    requires { (length (S.held source.now).stay ≡ cells) × (length (S.held source.now).moved ≡ cells) }
+    ensures { result ≡ min u64.MAX (sum (S.held source.now).stay + sum (S.held source.now).moved) }
 {
-    if SUM_CAP <= x {
-        return SUM_CAP;
+    let mut stay: u64 = 0;
+    let mut moved: u64 = 0;
+    for i in 0..cells {
+        stay = stay.saturating_add(source.stay_cell(i));
+        moved = moved.saturating_add(source.moved_cell(i));
     }
-    if SUM_CAP <= a + x {
-        return SUM_CAP;
-    }
-    a + x
+    stay.saturating_add(moved)
 }
 
-fn sum_capped(t: &[u64], b: &[u8], imaged: bool, n: usize) -> u64
-    requires { HasTable imaged n (length t.now) (length b.now) }
-    ensures { result ≡ min sum_cap (sum (cells_in imaged t.now b.now)) }
+// Twice the pairs is below the cap.
+fn is_twice<S: Counted>(source: &S, pairs: u64, cells: usize) -> bool
+    requires { (pairs ≤ counter_limit) × (length (S.held source.now).stay ≡ cells) × (length (S.held source.now).moved ≡ cells) }
+    ensures { result ≡ is_twice pairs (S.held source.now) }
 {
-    let mut a: u64 = 0;
-    let mut i: usize = 0;
-    while i < n {
-        a = add_capped(a, cell_in(t, b, imaged, n, i));
-        i += 1;
-    }
-    a
+    sum_capped(source, cells) == 2 * pairs
 }
 
-// Both sums are capped: twice the pairs is below the cap.
-fn is_twice(
-    pairs: u64,
-    stay: &[u64],
-    moved: &[u64],
-    sb: &[u8],
-    mb: &[u8],
-    imaged: bool,
-    cells: usize,
-) -> bool
-    requires { (pairs ≤ counter_limit) × HasTable imaged cells (length stay.now) (length sb.now) × HasTable imaged cells (length moved.now) (length mb.now) }
-    ensures { result ≡ is_twice pairs (tables (cells_in imaged stay.now sb.now) (cells_in imaged moved.now mb.now) []) }
+// In both tables the cell of states i and j equals its mirror's.
+fn cell_mirrored<S: Counted>(source: &S, n: usize, mirrors: &[usize], i: usize, j: usize) -> bool
+    requires { HasTables n (S.held source.now) × Mirrors n mirrors.now × (i < n) × (j < n) }
+    ensures { result ≡ cell_mirrored n (λ k. get_or mirrors.now k 0) (S.held source.now) i j }
 {
-    let a = sum_capped(stay, sb, imaged, cells);
-    let b = sum_capped(moved, mb, imaged, cells);
-    a + b == 2 * pairs
+    let x = tally::cell(n, i, j);
+    let y = tally::cell(n, mirrors[i], mirrors[j]);
+    (source.stay_cell(x) == source.stay_cell(y)) & (source.moved_cell(x) == source.moved_cell(y))
 }
 
-fn cells_alike(t: &[u64], b: &[u8], imaged: bool, n: usize, x: usize, y: usize) -> bool
-    requires { HasTable imaged n (length t.now) (length b.now) × (x < n) × (y < n) }
-    ensures { result ≡ cells_alike (cells_in imaged t.now b.now) x y }
+fn row_mirrored<S: Counted>(source: &S, n: usize, mirrors: &[usize], i: usize) -> bool
+    requires { HasTables n (S.held source.now) × Mirrors n mirrors.now × (i < n) }
+    ensures { result ≡ row_mirrored n (λ k. get_or mirrors.now k 0) (S.held source.now) i }
 {
-    let p = cell_in(t, b, imaged, n, x);
-    let q = cell_in(t, b, imaged, n, y);
-    p == q
-}
-
-fn row_mirrored(
-    n: usize,
-    mirrors: &[usize],
-    stay: &[u64],
-    moved: &[u64],
-    sb: &[u8],
-    mb: &[u8],
-    imaged: bool,
-    i: usize,
-) -> bool
-    requires { (n ≤ 256) × (i < n) × Mirrors n mirrors.now × HasTable imaged (n * n) (length stay.now) (length sb.now) × HasTable imaged (n * n) (length moved.now) (length mb.now) }
-    ensures { result ≡ row_mirrored n (λ k. get_or mirrors.now k 0) (tables (cells_in imaged stay.now sb.now) (cells_in imaged moved.now mb.now) []) i }
-{
-    let cells = n * n;
-    let m = mirrors[i];
-    let mut j: usize = 0;
-    while j < n {
-        let x = tally::cell(n, i, j);
-        let y = tally::cell(n, m, mirrors[j]);
-        let a = cells_alike(stay, sb, imaged, cells, x, y);
-        let b = cells_alike(moved, mb, imaged, cells, x, y);
-        if !(a & b) {
-            return false;
-        }
-        j += 1;
-    }
-    true
+    (0..n).all(|j| cell_mirrored(source, n, mirrors, i, j))
 }
 
 // A state's total (9), then its row of cells (10).
-fn check_state(
-    n: usize,
-    mirrors: &[usize],
-    stay: &[u64],
-    moved: &[u64],
-    move_half_ticks: &[i64],
-    sb: &[u8],
-    mb: &[u8],
-    tb: &[u8],
-    imaged: bool,
-    i: usize,
-) -> Check
-    requires { (i < n) × Mirrors n mirrors.now
-        × HasTables imaged n (length stay.now) (length moved.now) (length move_half_ticks.now) (length sb.now) (length mb.now) (length tb.now) }
-    ensures { result ≡ check_state n (λ k. get_or mirrors.now k 0) (tables_in imaged stay.now moved.now move_half_ticks.now sb.now mb.now tb.now) i }
+fn check_state<S: Counted>(source: &S, n: usize, mirrors: &[usize], i: usize) -> Result<(), Refusal>
+    requires { HasTables n (S.held source.now) × Mirrors n mirrors.now × (i < n) }
+    ensures { result ≡ check_state n (λ k. get_or mirrors.now k 0) (S.held source.now) i }
 {
-    if !total_mirrored(move_half_ticks, tb, imaged, n, i, mirrors[i]) {
-        return Check::Refused(Refusal::TotalsUnmirrored);
+    if !total_mirrored(source, i, mirrors[i]) {
+        return Err(Refusal::TotalsUnmirrored);
     }
-    if !row_mirrored(n, mirrors, stay, moved, sb, mb, imaged, i) {
-        return Check::Refused(Refusal::CellsUnmirrored);
+    if !row_mirrored(source, n, mirrors, i) {
+        return Err(Refusal::CellsUnmirrored);
     }
-    Check::Fine
+    Ok(())
 }
 
-fn check_states(
-    n: usize,
-    mirrors: &[usize],
-    stay: &[u64],
-    moved: &[u64],
-    move_half_ticks: &[i64],
-    sb: &[u8],
-    mb: &[u8],
-    tb: &[u8],
-    imaged: bool,
-) -> Check
-    requires { Mirrors n mirrors.now × HasTables imaged n (length stay.now) (length moved.now) (length move_half_ticks.now) (length sb.now) (length mb.now) (length tb.now) }
-    ensures { result ≡ first_from (check_state n (λ k. get_or mirrors.now k 0) (tables_in imaged stay.now moved.now move_half_ticks.now sb.now mb.now tb.now)) 0 n }
+fn check_states<S: Counted>(source: &S, n: usize, mirrors: &[usize]) -> Result<(), Refusal>
+    requires { HasTables n (S.held source.now) × Mirrors n mirrors.now }
+    ensures { result ≡ first_from (check_state n (λ k. get_or mirrors.now k 0) (S.held source.now)) 0 n }
 {
-    let mut i: usize = 0;
-    while i < n {
-        let k = check_state(
-            n,
-            mirrors,
-            stay,
-            moved,
-            move_half_ticks,
-            sb,
-            mb,
-            tb,
-            imaged,
-            i,
-        );
-        let Check::Fine = k else {
-            return k;
-        };
-        i += 1;
+    for i in 0..n {
+        check_state(source, n, mirrors, i)?;
     }
-    Check::Fine
+    Ok(())
 }
 
 fn counters_over(k: Counters) -> bool
@@ -240,36 +177,24 @@ fn counters_over(k: Counters) -> bool
         | (COUNTER_LIMIT < k.skipped_gap_pairs)
 }
 
-// The check of n states with their mirrors. The tables are the slices or, if imaged, those of the bytes.
-pub fn check_counts(
+// The check of n states with their mirrors.
+pub fn check_counts<S: Counted>(
     n: usize,
     mirrors: &[usize],
     counters: Counters,
-    stay: &[u64],
-    moved: &[u64],
-    move_half_ticks: &[i64],
-    sb: &[u8],
-    mb: &[u8],
-    tb: &[u8],
-    imaged: bool,
-) -> Check
-    requires { Mirrors n mirrors.now × HasTables imaged n (length stay.now) (length moved.now) (length move_half_ticks.now) (length sb.now) (length mb.now) (length tb.now) }
-    ensures { result ≡ check_counts n (λ k. get_or mirrors.now k 0) (counts_of counters (tables_in imaged stay.now moved.now move_half_ticks.now sb.now mb.now tb.now)) }
+    source: &S,
+) -> Result<(), Refusal>
+    requires { HasTables n (S.held source.now) × Mirrors n mirrors.now }
+    ensures { result ≡ check_counts n (λ k. get_or mirrors.now k 0) (counts_of counters (S.held source.now)) }
 {
-    if counters_over(counters) {
-        return Check::Refused(Refusal::CountLimit);
+    if counters_over(counters) || totals_over(source, n) {
+        return Err(Refusal::CountLimit);
     }
-    if totals_over(move_half_ticks, tb, imaged, n) {
-        return Check::Refused(Refusal::CountLimit);
+    check_states(source, n, mirrors)?;
+    if !is_twice(source, counters.pairs, n * n) {
+        return Err(Refusal::CellsNotTwicePairs);
     }
-    let walked = check_states(n, mirrors, stay, moved, move_half_ticks, sb, mb, tb, imaged);
-    let Check::Fine = walked else {
-        return walked;
-    };
-    if !is_twice(counters.pairs, stay, moved, sb, mb, imaged, n * n) {
-        return Check::Refused(Refusal::CellsNotTwicePairs);
-    }
-    Check::Fine
+    Ok(())
 }
 
 // The mirrors of a configuration's states, in one walk that knows the spread level of each.
@@ -284,67 +209,23 @@ pub fn mirrors_of(config: MicroPriceConfig) -> [usize; 256]
         spread: 1,
         first: 0,
     };
-    let mut i: usize = 0;
-    while i < n {
+    for i in 0..n {
         r[i] = quotes::inner::mirror_in(w, level.first, i);
         level = quotes::inner::level_after(w, level, i);
-        i += 1;
     }
     r
 }
 
 // The check under a configuration, of tables in slices or in bytes.
-pub fn check_tables(
+pub fn check_tables<S: Counted>(
     config: MicroPriceConfig,
     counters: Counters,
-    stay: &[u64],
-    moved: &[u64],
-    move_half_ticks: &[i64],
-    sb: &[u8],
-    mb: &[u8],
-    tb: &[u8],
-    imaged: bool,
-) -> Check
-    requires { Valid config × HasTables imaged (states config) (length stay.now) (length moved.now) (length move_half_ticks.now) (length sb.now) (length mb.now) (length tb.now) }
-    ensures { result ≡ check_mirrored config (counts_of counters (tables_in imaged stay.now moved.now move_half_ticks.now sb.now mb.now tb.now)) }
+    source: &S,
+) -> Result<(), Refusal>
+    requires { Valid config × HasTables (states config) (S.held source.now) }
+    ensures { result ≡ check_mirrored config (counts_of counters (S.held source.now)) }
 {
     let n = config::inner::state_count(config);
     let mirrors = mirrors_of(config);
-    check_counts(
-        n,
-        &mirrors,
-        counters,
-        stay,
-        moved,
-        move_half_ticks,
-        sb,
-        mb,
-        tb,
-        imaged,
-    )
-}
-
-// The check of lent tables.
-pub fn check_mirrored_counts(
-    config: MicroPriceConfig,
-    counters: Counters,
-    stay: &[u64],
-    moved: &[u64],
-    move_half_ticks: &[i64],
-) -> Check
-    requires { Valid config × (length stay.now ≡ states config * states config) × (length moved.now ≡ states config * states config) × (length move_half_ticks.now ≡ states config) }
-    ensures { result ≡ check_mirrored config (counts_of counters (tables stay.now moved.now move_half_ticks.now)) }
-{
-    let none = [0u8; 1];
-    check_tables(
-        config,
-        counters,
-        stay,
-        moved,
-        move_half_ticks,
-        &none,
-        &none,
-        &none,
-        false,
-    )
+    check_counts(n, &mirrors, counters, source)
 }

@@ -1,3 +1,1 @@
-pub mod Windows
-pub mod Counting
 pub mod Evenings

@@ -1,1 +1,2 @@
 pub mod Evening
+pub mod Inner

@@ -3,64 +3,40 @@
 
 use calibrator::Record;
 use config::MicroPriceConfig;
-use refusals::{Check, Refusal};
+use refusals::Refusal;
+use tally::LentTables;
 
 pub mod inner;
 
 ghost use Rattle.std.specs.Prelude.{◌≡◌};
-ghost use Rattle.calibrator.specs.Record.{memory};
+ghost use Rattle.tally.specs.Lent.{tables_of, SameSlices};
+ghost use Rattle.calibrator.specs.Record.{memory_with};
 ghost use Rattle.evening.specs.Evening.{end_evening, calibrated};
 
-// A fit's answer, nothing refused or 16 to 19, and the number of invalid quotes.
+// A fit's answer, nothing refused or 16 to 19, and the number of invalid quotes, which both answers have: no `Result` of the number.
 #[derive(Clone, Copy)]
 pub struct Counted {
-    pub answer: Check,
+    pub answer: Result<(), Refusal>,
     pub invalid: u64,
 }
 
-// What an evening answers.
-#[derive(Clone, Copy)]
-pub enum Evening {
-    Fitted(Counted),
-    // Refused before the fit.
-    Refused(Refusal),
-}
-
-// An answer with the record as it is left.
-#[derive(Clone, Copy)]
-pub struct EveningDone {
-    pub answer: Evening,
-    pub next: Record,
-}
-
-// Counts the quotes of the window from new, and fits the counts.
+// Counts the quotes of the window from new, and fits the counts. An `Err` is a refusal before the fit.
 pub fn calibrate_micro_price(
     rec: &mut Record,
-    stay: &mut [u64],
-    moved: &mut [u64],
-    move_half_ticks: &mut [i64],
+    tables: &mut LentTables<'_>,
     config: MicroPriceConfig,
     recording: &[u64],
     start: u64,
     end: u64,
     scratch: &mut [f64],
     model: &mut [u64],
-) -> Evening
-    ensures { end_evening result (memory rec.new stay.new moved.new move_half_ticks.new) model.new scratch.new
-        ≡ calibrated config (memory rec.old stay.old moved.old move_half_ticks.old) recording.now start end model.old scratch.old }
+) -> Result<Counted, Refusal>
+    ensures left { end_evening result (memory_with rec.new (tables_of tables.new)) model.new scratch.new
+        ≡ calibrated config (memory_with rec.old (tables_of tables.old)) recording.now start end model.old scratch.old }
+    ensures same_slices { SameSlices tables.old tables.new }
 {
-    let done = inner::calibrate_micro_price(
-        *rec,
-        stay,
-        moved,
-        move_half_ticks,
-        config,
-        recording,
-        start,
-        end,
-        scratch,
-        model,
-    );
-    *rec = done.next;
-    done.answer
+    let ends = recording::window_of(recording, start, end)?;
+    inner::check_lengths(config, tables.view(), scratch.len(), model.len())?;
+    let part = recording::inner::part_of(recording, ends);
+    inner::count_and_fit(rec, tables, config, part, scratch, model)
 }

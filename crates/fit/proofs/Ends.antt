@@ -5,23 +5,28 @@ use mathlib.Core.Bool.{Bool, true, false, not, cond, ◌||◌}
 use mathlib.Core.List.{List, ◌++◌}
 use native.Mathlib.Omega.{arith}
 use lib.Dec.{eqb}
-use lib.ListN.{length, get_or}
+use lib.ListN.{length, take}
+use Rattle.std.specs.List.{list_any}
 use lib.Ieee.{Float}
 use Rattle.basics.proofs.Tests.{zero-not-one}
-use Rattle.refusals.specs.declared.Check.{Check}
-use Rattle.refusals.specs.declared.Check.TheVariants.{Fine, Refused}
+use Rattle.std.specs.Prelude.{Ok, Err}
+use Rattle.refusals.specs.Refusals.{Check}
 use Rattle.refusals.specs.declared.Refusal.{Refusal}
 use Rattle.refusals.specs.declared.Refusal.TheVariants.{NoCalibratedState}
 use Rattle.model.specs.Rows.{row_words}
 use Rattle.model.specs.declared.StateEstimate.{StateEstimate}
+use Rattle.model.specs.Status.{is_calibrated}
+use Rattle.model.specs.declared.StateStatus.{StateStatus}
+use Rattle.model.specs.declared.StateStatus.TheVariants.{Calibrated, Rare, NoPriceMove, OutsideQuotes}
+use Rattle.model.specs.contracts.StateStatusPartialEq.TheImpl as StatusImpl
 use Rattle.fit_marking.specs.Below.{some_to}
-use Rattle.fit_marking.specs.Marks.{Cells, observations, Marked, mark_of}
+use Rattle.fit_marking.specs.Marks.{Cells, observations, Marked, mark_of, mark_at}
 use Rattle.fit_marking.proofs.Below.{some-none, some-step}
+use Rattle.fit_marking.proofs.Rows.{some-first}
 use Rattle.fit_marking.proofs.Decided.{marked-is}
 use Rattle.fit_system.specs.Rows.{used}
 use Rattle.fit_system.specs.Inner.{Marks, check_of, StandsIn, SolvedIn}
 use Rattle.fit_system.specs.Solution.{Solution, solution, unsolved, solution_of}
-use Rattle.fit_system.proofs.Filling.{used-number}
 use Rattle.fit_system.proofs.Solving.{SolvedOrRefused, solved-or-refused}
 use Rattle.fit_estimates.specs.Estimates.{Given, estimate_of, estimate, representable}
 use Rattle.fit.specs.Fit.{Fit, fitted, refused, judged_rows, fit_from, fit_of, table_of, fit_answer, model_after}
@@ -57,18 +62,18 @@ judged-same n a b h =
     go s s' t t' e f = pick s t ∙ (λ j. fit_answer (cond (e j) (refused 19) (cond (f j) (fitted b) (refused 16))))
 
 -- rows that pass are the fit's
-judged-passed : (n : ℕ) (rows : ℕ → StateEstimate) → Fine ≡ fit_answer (judged_rows n rows) → judged_rows n rows ≡ fitted rows
+judged-passed : (n : ℕ) (rows : ℕ → StateEstimate) → Ok tt ≡ fit_answer (judged_rows n rows) → judged_rows n rows ≡ fitted rows
 unfolding judged_rows
 judged-passed n rows e = go (some_to n (λ i. not (representable (rows i)))) (some_to n (λ i. eqb (rows i).status 0)) e
   where
-    go : (s t : Bool) → Fine ≡ fit_answer (cond s (refused 19) (cond t (fitted rows) (refused 16)))
+    go : (s t : Bool) → Ok tt ≡ fit_answer (cond s (refused 19) (cond t (fitted rows) (refused 16)))
         → cond s (refused 19) (cond t (fitted rows) (refused 16)) ≡ fitted rows
     go true t e = absurd (zero-not-one cc)
     go false true e = refl
     go false false e = absurd (zero-not-one cc)
 
 -- a refused fit leaves the table
-table-left : (n : ℕ) (f : Fit) (r : Refusal) (t : List ℕ) → Refused r ≡ fit_answer f → t ≡ model_after n f t
+table-left : (n : ℕ) (f : Fit) (r : Refusal) (t : List ℕ) → Err r ≡ fit_answer f → t ≡ model_after n f t
 table-left n (fitted rows) r t e = absurd (zero-not-one cc)
 table-left n (refused k) r t e = refl
 
@@ -92,18 +97,25 @@ models-same n a b h t =
 
 -- ---- the marks
 
-pub marks-of : (C : Cells) (before after : List ℕ) → C.states ≤ length after → Marked C before after → Marks C after
-marks-of C before after h m = record { enough = h; numbers = marked-is C before after m }
+pub marks-of : (C : Cells) (before after : List StateStatus) → C.states ≤ length after → Marked C before after → Marks C after
+marks-of C before after h m = record { enough = h; each = marked-is C before after m }
 
-pub marked-used : (C : Cells) (marks : List ℕ) → Marks C marks → some_to C.states (λ i. eqb (get_or marks i 0) 0) ≡ some_to C.states (used C)
+-- whether one of the first n marks is Calibrated, asked by the derived equality
+pub marked-used : (C : Cells) (marks : List StateStatus) → Marks C marks → list_any (λ m. (StatusImpl.ghosts).eq m Calibrated) (take C.states marks) ≡ some_to C.states (used C)
 marked-used C marks m =
-    some_same C.states (λ i. eqb (get_or marks i 0) 0) (used C)
-    (λ i h. ap (λ k. eqb k 0) (m.numbers i h) ∙ used-number (mark_of C i))
+    some-first (λ m. (StatusImpl.ghosts).eq m Calibrated) C.states marks Calibrated m.enough
+    ∙ some_same C.states _ (used C) (λ i h. equal (mark_at marks i) ∙ ap is_calibrated (m.each i h))
+  where
+    equal : (m : StateStatus) → (StatusImpl.ghosts).eq m Calibrated ≡ is_calibrated m
+    equal Calibrated = refl
+    equal Rare = refl
+    equal NoPriceMove = refl
+    equal OutsideQuotes = refl
 
 -- ---- the ends
 
 module _ (rounds moves : ℕ) (G : Given) (t : List ℕ) where
-  pub ends-none : some_to G.cells.states (used G.cells) ≡ false → FitEnds G.cells.states (fit_of rounds moves G) t (Refused NoCalibratedState) t
+  pub ends-none : some_to G.cells.states (used G.cells) ≡ false → FitEnds G.cells.states (fit_of rounds moves G) t (Err NoCalibratedState) t
   unfolding fit_of
   ends-none e = rw e (record { answers = refl; models = refl })
 
@@ -112,11 +124,11 @@ module _ (rounds moves : ℕ) (G : Given) (t : List ℕ) where
     unfolding fit_of
     goes = rw u
 
-    pub ends-unsolved : {k : Check} {r : Refusal} → k ≡ check_of (solution_of rounds moves G.cells G.total) → k ≡ Refused r
+    pub ends-unsolved : {k : Check} {r : Refusal} → k ≡ check_of (solution_of rounds moves G.cells G.total) → k ≡ Err r
         → FitEnds G.cells.states (fit_of rounds moves G) t k t
     ends-unsolved {k} {r} is answer-is = rw (answer-is, goes) (go (solution_of rounds moves G.cells G.total) (sym answer-is ∙ is))
       where
-        go : (s : Solution) → Refused r ≡ check_of s → FitEnds G.cells.states (fit_from G s) t (Refused r) t
+        go : (s : Solution) → Err r ≡ check_of s → FitEnds G.cells.states (fit_from G s) t (Err r) t
         go (solution a b d) e = absurd (zero-not-one cc)
         go (unsolved k) e = record { answers = e; models = refl }
 
@@ -124,7 +136,7 @@ module _ (rounds moves : ℕ) (G : Given) (t : List ℕ) where
     module _
         (mirrored : (i : ℕ) → i < G.cells.states → G.mirror i < G.cells.states)
         (l : List Float)
-        (s : SolvedIn G.cells.states (solution_of rounds moves G.cells G.total) Fine l) where
+        (s : SolvedIn G.cells.states (solution_of rounds moves G.cells G.total) (Ok tt) l) where
       pub record Rows : Type 0 where
         pub rows : ℕ → StateEstimate
         pub fit_is : fit_of rounds moves G ≡ judged_rows G.cells.states rows
@@ -134,7 +146,7 @@ module _ (rounds moves : ℕ) (G : Given) (t : List ℕ) where
       solved-rows =
           go (solution_of rounds moves G.cells G.total) (solved-or-refused rounds moves G.cells G.total) goes s.answers s.stands
         where
-          go : (x : Solution) → SolvedOrRefused x → fit_of rounds moves G ≡ fit_from G x → Fine ≡ check_of x → StandsIn G.cells.states x l → Rows
+          go : (x : Solution) → SolvedOrRefused x → fit_of rounds moves G ≡ fit_from G x → Ok tt ≡ check_of x → StandsIn G.cells.states x l → Rows
           go (unsolved k) r f e st = absurd (r (sym e))
           go (solution G1 sum share) r f e st =
               record {
@@ -151,15 +163,15 @@ module _ (rounds moves : ℕ) (G : Given) (t : List ℕ) where
                     });
               }
 
-      pub ends-refused : {k : Check} {r : Refusal} → k ≡ fit_answer (judged_rows G.cells.states (rows_in G.cells.states G l)) → k ≡ Refused r
+      pub ends-refused : {k : Check} {r : Refusal} → k ≡ fit_answer (judged_rows G.cells.states (rows_in G.cells.states G l)) → k ≡ Err r
           → FitEnds G.cells.states (fit_of rounds moves G) t k t
       ends-refused {k} {r} is answer-is =
           let R = solved-rows in
           let a : k ≡ fit_answer (fit_of rounds moves G) = is ∙ judged-same G.cells.states _ R.rows R.same ∙ ap fit_answer (sym R.fit_is) in
           record { answers = a; models = table-left G.cells.states (fit_of rounds moves G) r t (sym answer-is ∙ a) }
 
-      pub ends-fitted : {k : Check} {m : List ℕ} → k ≡ fit_answer (judged_rows G.cells.states (rows_in G.cells.states G l)) → k ≡ Fine
-          → m ≡ table_of G.cells.states (rows_in G.cells.states G l) → FitEnds G.cells.states (fit_of rounds moves G) t Fine m
+      pub ends-fitted : {k : Check} {m : List ℕ} → k ≡ fit_answer (judged_rows G.cells.states (rows_in G.cells.states G l)) → k ≡ Ok tt
+          → m ≡ table_of G.cells.states (rows_in G.cells.states G l) → FitEnds G.cells.states (fit_of rounds moves G) t (Ok tt) m
       ends-fitted {k} {m} is answer-is w =
           let R = solved-rows in
           let f : fit_of rounds moves G ≡ fitted R.rows =

@@ -11,14 +11,13 @@ use lib.Ieee.{Float, add, sub, mul, div, neg, lt, le, eq, is_nan, round, of_bits
 use Rattle.basics.specs.Lists.{square}
 use Rattle.floats.specs.Floats.{pos_zero, one, abs, as_great, max, is_infinite, clamp, plus_zero, half}
 use Rattle.refusals.specs.Refusals.{refusal}
-use Rattle.refusals.specs.declared.Check.TheVariants.{Fine}
+use Rattle.std.specs.Prelude.{None, Ok}
 use Rattle.config.specs.Configuration.{new_config, with_min_state_observations, with_max_quote_gap_ms, states}
 use Rattle.config.specs.declared.MicroPriceConfig.{MicroPriceConfig}
 use Rattle.quotes.proofs.Marked.{marked}
 use Rattle.tally.specs.Entries.{tables}
 use Rattle.tally.specs.Rules.{Memory}
-use Rattle.calibrator.specs.declared.Previous.{Previous}
-use Rattle.calibrator.specs.declared.Previous.TheVariants.{Nothing}
+use Rattle.calibrator.specs.Record.{Previous}
 use Rattle.fit_marking.specs.Below.{sum_to, some_to}
 use Rattle.fit_marking.specs.Marks.{observations, reaches_in, mark_of}
 use Rattle.fit_linear.specs.Elimination.{system, pivot_row, swapped, cleared, reduced, column_solved, columns_solved}
@@ -42,7 +41,7 @@ count_in (cell r k x ∷ cells) i j = cond (eqb r i && eqb k j) x (count_in cell
 abbrev with_counts : ℕ → ℕ → ℕ → List Cell → List Cell → List ℤ → Memory Previous
 with_counts N pairs largest stay moved totals =
     record {
-      last = Nothing;
+      last = None;
       counts =
           record {
             pairs = pairs;
@@ -64,7 +63,7 @@ outcome_of c m = fit_counts c m (nines (states c)) (ones (states c))
 
 -- the outcome of N states where the fit succeeds with this model, and where it answers 16 to 19
 abbrev pub succeeds : ℕ → List ℕ → FitOutcome
-succeeds N model = end_fit Fine model (replicate (N * (2 * N + 10)) pos_zero)
+succeeds N model = end_fit (Ok tt) model (replicate (N * (2 * N + 10)) pos_zero)
 
 abbrev pub fails_with : ℕ → ℕ → FitOutcome
 fails_with N k = end_fit (refusal k) (nines N) (replicate (N * (2 * N + 10)) pos_zero)

@@ -7,48 +7,49 @@ use native.Mathlib.Numerals.{add-one}
 use native.Mathlib.Omega.{arith}
 use borrow.Author.Tests.{not-true, not-false}
 use lib.Dec.{eqb}
-use lib.IntN.{ℤ}
 use lib.Ieee.{Float}
 use lib.ListN.{length, get_or, length-append}
 use lib.Seq.{sets}
 use Rattle.basics.proofs.Stores.{sets-append, sets-whole}
 use Rattle.fit_marking.specs.Below.{some_to}
-use Rattle.fit_marking.specs.Marks.{cells_of, observations, mark_of}
+use Rattle.fit_marking.specs.Marks.{observations, mark_at}
+use Rattle.fit_marking.specs.Tables.{cells_in}
 use Rattle.fit_marking.proofs.Rows.{any-least}
 use Rattle.fit_marking.proofs.Below.{some-none, some_at, some-step, some_more}
 use Rattle.model.specs.Rows.{row_words}
-use Rattle.model.specs.Status.{status_number}
 use Rattle.model.specs.declared.StateEstimate.{StateEstimate}
 use Rattle.model.specs.declared.StateStatus.{StateStatus}
 use Rattle.fit_linear.specs.Inner.{from}
 use Rattle.fit_series.specs.Inner.{sum_at, share_at, solved_g1}
 use Rattle.fit_system.specs.Inner.{Marks}
 use Rattle.quotes.specs.States.{bucket_in, spread_in}
-use Rattle.refusals.specs.declared.Check.TheVariants.{Fine, Refused}
+use Rattle.std.specs.Prelude.{Ok, Err}
 use Rattle.refusals.specs.declared.Refusal.TheVariants.{NoCalibratedState, Unrepresentable}
 use Rattle.fit_estimates.specs.Estimates.{estimate_of, solved_at, representable}
 use Rattle.fit_estimates.specs.declared.Solved.{Solved}
 use Rattle.fit.specs.Fit.{judged_rows, table_of, fit_answer}
-use Rattle.fit.specs.Inner.{given_in, rows_in}
+use Rattle.fit.specs.Inner.{rows_in}
+use Rattle.fit.specs.InnerInput.{input_in}
+use Rattle.fit.specs.declared.inner.FitInput.{FitInput}
 
 -- ---- the rows that scratch holds
 
--- what is so of the rows in scratch, for every least count and every totals for which the marks are the marks of the cells
-abbrev pub OfRows : ℕ → ℕ → ℕ → List ℕ → List ℕ → List ℕ → List ℕ → List Float → ((ℕ → StateEstimate) → Type 0) → Type 0
-OfRows n buckets tick stay moved marks mirrors scratch So =
-    (least : ℕ) (totals : List ℤ) → Marks (cells_of n least stay moved) marks
-    → So (rows_in n (given_in n buckets tick least stay moved totals mirrors) scratch)
+-- what is so of the rows in scratch, for every least count for which the marks are the marks of the cells
+abbrev pub OfRows : FitInput → List StateStatus → List Float → ((ℕ → StateEstimate) → Type 0) → Type 0
+OfRows f marks scratch So = (least : ℕ) → let G = input_in f least in Marks G.cells marks → So (rows_in G.cells.states G scratch)
 
 -- state i's row, made of what scratch has for it and its mirror, of its observations and of its mark
-pub row_made : (n buckets tick : ℕ) (stay moved marks mirrors : List ℕ) (scratch : List Float) (i : ℕ) → i < n
-    → {s : Solved} → s ≡ solved_at (λ k. get_or mirrors i 0) (solved_g1 n scratch) (from (sum_at n) scratch) (from (share_at n) scratch) i
-    → {o : ℕ} → o ≡ observations (cells_of n 0 stay moved) i
-    → {e : StateEstimate} → ((m : StateStatus) → get_or marks i 0 ≡ status_number m → e ≡ estimate_of tick (bucket_in buckets i + 1) (spread_in buckets i) m o s)
-    → OfRows n buckets tick stay moved marks mirrors scratch (λ rows. e ≡ rows i)
-row_made n buckets tick stay moved marks mirrors scratch i h is-s is-o is-e least totals m =
-    let C = cells_of n least stay moved in
-    is-e (mark_of C i) (m.numbers i h)
-    ∙ (λ j. estimate_of tick (bucket_in buckets i + 1) (spread_in buckets i) (mark_of C i) ((is-o ∙ sym (any-least n least stay moved i)) j) (is-s j))
+pub row_made : (f : FitInput) (marks : List StateStatus) (scratch : List Float) (i : ℕ) → i < f.tables.pairs.states
+    → {s : Solved} → s ≡ solved_at (λ k. get_or f.mirrors.now i 0) (solved_g1 f.tables.pairs.states scratch) (from (sum_at f.tables.pairs.states) scratch)
+    (from (share_at f.tables.pairs.states) scratch) i
+    → {o : ℕ} → o ≡ observations (cells_in f.tables.pairs 0) i
+    → {e : StateEstimate} → e ≡ estimate_of f.tick (bucket_in f.buckets i + 1) (spread_in f.buckets i) (mark_at marks i) o s
+    → OfRows f marks scratch (λ rows. e ≡ rows i)
+row_made f marks scratch i h is-s is-o is-e least m =
+    let p = f.tables.pairs in
+    is-e
+    ∙ (λ j. estimate_of f.tick (bucket_in f.buckets i + 1) (spread_in f.buckets i) (m.each i h j)
+    ((is-o ∙ sym (any-least p.states least p.stay.now p.moved.now i)) j) (is-s j))
 
 -- ---- judged
 
@@ -62,7 +63,7 @@ seen_none = record { held = some-none _; found-is = sym (some-none _) }
 
 module _ {rows : ℕ → StateEstimate} {i : ℕ} {found : Bool} (s : Seen rows i found) where
   module _ {e : StateEstimate} {r : Bool} (is : e ≡ rows i) (said : r ≡ representable e) where
-    pub judged-no : (n : ℕ) → i < n → not r ≡ true → Refused Unrepresentable ≡ fit_answer (judged_rows n rows)
+    pub judged-no : (n : ℕ) → i < n → not r ≡ true → Err Unrepresentable ≡ fit_answer (judged_rows n rows)
     unfolding judged_rows
     judged-no n h fails = rw (some_at n (λ k. not (representable (rows k))) i h (ap (λ e. not (representable e)) (sym is) ∙ ap not (sym said) ∙ fails))
 
@@ -77,11 +78,11 @@ module _ {rows : ℕ → StateEstimate} {i : ℕ} {found : Bool} (s : Seen rows 
 
   -- all n rows are seen
   module _ {n : ℕ} (all : i ≡ n) where
-    pub judged-none : not found ≡ true → Refused NoCalibratedState ≡ fit_answer (judged_rows n rows)
+    pub judged-none : not found ≡ true → Err NoCalibratedState ≡ fit_answer (judged_rows n rows)
     unfolding judged_rows
     judged-none none = rw (← all, s.held, ← s.found-is, not-true found none)
 
-    pub judged-fine : not found ≡ false → Fine ≡ fit_answer (judged_rows n rows)
+    pub judged-fine : not found ≡ false → Ok tt ≡ fit_answer (judged_rows n rows)
     unfolding judged_rows
     judged-fine one = rw (← all, s.held, ← s.found-is, not-false found one)
 
@@ -106,9 +107,6 @@ table-whole n rows l e = sets-whole (table_of n rows) l (length-table n rows ∙
 -- a loop over the rows of a table, of which the first i are written
 pub record Writing (rows : ℕ → StateEstimate) (before : List ℕ) (i : ℕ) (after : List ℕ) : Type 0 where
   pub stored : after ≡ sets before 0 (table_of i rows)
-
-pub writing-none : {rows : ℕ → StateEstimate} {l : List ℕ} → Writing rows l 0 l
-writing-none = record { stored = refl }
 
 module _ {rows : ℕ → StateEstimate} {l : List ℕ} {i : ℕ} {m : List ℕ} (w : Writing rows l i m) where
   pub writing_more : {e : StateEstimate} {after : List ℕ} → e ≡ rows i → after ≡ sets m (7 * i) (row_words e) → Writing rows l (i + 1) after

@@ -14,10 +14,8 @@ use Rattle.basics.specs.Lists.{any, sum}
 use Rattle.basics.proofs.Tests.{both, neither}
 use Rattle.basics.proofs.Anys.{none-at}
 use Rattle.basics.specs.Domain.{counter_limit, cell_limit}
-use Rattle.refusals.specs.Refusals.{refuse_if, first_of, first_from}
-use Rattle.refusals.specs.declared.Check.{Check}
-use Rattle.refusals.specs.declared.Check.TheVariants.{Fine, Refused}
-use Rattle.refusals.specs.declared.Refusal.{Refusal}
+use Rattle.refusals.specs.Refusals.{refuse_if, first_of, first_from, Check}
+use Rattle.std.specs.Prelude.{Ok}
 use Rattle.refusals.proofs.Refusals.{if-fine, first_fine, from-fine}
 use Rattle.config.specs.Configuration.{states}
 use Rattle.config.specs.Inner.{Valid}
@@ -29,7 +27,7 @@ use Rattle.tally.specs.Events.{Counts}
 use Rattle.tally.specs.Limits.{over_counter}
 use Rattle.tally.specs.Rules.{Memory}
 use Rattle.calibrator.specs.Observe.{check_memory}
-use Rattle.calibrator.specs.declared.Previous.{Previous}
+use Rattle.calibrator.specs.Record.{Previous}
 use Rattle.calibrator.proofs.Lengths.{tables-known, lengths-known}
 use Rattle.count_check.specs.Mirrors.{stored_over, total_mirrored, cells_alike, cell_mirrored, row_mirrored, check_state, is_twice, check_mirrored}
 use Rattle.count_check.proofs.Walks.{all-at}
@@ -54,9 +52,9 @@ pub record Fittable (c : MicroPriceConfig) (m : Memory Previous) (scratch model 
   pub totals-cells : length m.counts.tables.totals ≡ states c
   pub scratch-long : scratch ≡ states c * (2 * states c + 10)
   pub model-long : model ≡ 7 * states c
-  pub mirrored : check_mirrored c m.counts ≡ Fine
+  pub mirrored : check_mirrored c m.counts ≡ Ok tt
 
-pub fit-known : (c : MicroPriceConfig) (m : Memory Previous) (scratch model : ℕ) → fit_refusal c m scratch model ≡ Fine → Fittable c m scratch model
+pub fit-known : (c : MicroPriceConfig) (m : Memory Previous) (scratch model : ℕ) → fit_refusal c m scratch model ≡ Ok tt → Fittable c m scratch model
 fit-known c m scratch model e =
     let s = length m.counts.tables.stay in
     let d = length m.counts.tables.moved in
@@ -81,7 +79,7 @@ pub record Limited (k : Counts) : Type 0 where
   pub cells-most : sum k.tables.stay + sum k.tables.moved ≤ 2 * counter_limit
   pub totals-most : any over_total k.tables.totals ≡ false
 
-pub limited-of : (c : MicroPriceConfig) (k : Counts) → check_mirrored c k ≡ Fine → Limited k
+pub limited-of : (c : MicroPriceConfig) (k : Counts) → check_mirrored c k ≡ Ok tt → Limited k
 limited-of c k e =
     let walk = first_from (check_state (states c) (mirror_of c.imbalance_buckets) k.tables) 0 (states c) in
     let a = first_fine (refuse_if (stored_over k) 6) (first_of walk (refuse_if (not (is_twice k.pairs k.tables)) 11)) e in
@@ -113,7 +111,7 @@ mirrored-of {c} {m} f =
     k : Counts
     k = m.counts
 
-    walked : (i : ℕ) → i < N → check_state N mirror k.tables i ≡ Fine
+    walked : (i : ℕ) → i < N → check_state N mirror k.tables i ≡ Ok tt
     walked i h =
         let walk = first_from (check_state N mirror k.tables) 0 N in
         let a = first_fine (refuse_if (stored_over k) 6) (first_of walk (refuse_if (not (is_twice k.pairs k.tables)) 11)) f.mirrored in
@@ -160,16 +158,9 @@ scratch-of l f = record { few = f.conf.states-most; enough = omega (arith, f.scr
 
 -- ---- the whole
 
--- what is refused before the fit changes nothing
-pub whole-refused : (rounds moves : ℕ) (c : MicroPriceConfig) (m : Memory Previous) (model : List ℕ) (scratch : List Float) {k : Check} {r : Refusal}
-    → k ≡ fit_refusal c m (length scratch) (length model) → k ≡ Refused r → end_fit k model scratch ≡ fitted_with rounds moves c m model scratch
-whole-refused rounds moves c m model scratch is answer-is =
-    (λ j. end_fit (answer-is j) model scratch)
-    ∙ sym (ap (λ k. fit_unless k (states c) (fit_of rounds moves (given_of c m.counts)) model scratch) (sym is ∙ answer-is))
-
 pub whole : (rounds moves : ℕ) (c : MicroPriceConfig) (m : Memory Previous) (model after : List ℕ) (scratch left : List Float) (r : Check) (n : ℕ) (ms : List ℕ)
     → n ≡ states c
-    → fit_refusal c m (length scratch) (length model) ≡ Fine
+    → fit_refusal c m (length scratch) (length model) ≡ Ok tt
     → ((i : ℕ) → i < states c → get_or ms i 0 ≡ mirror_of c.imbalance_buckets i)
     → FitEnds n
     (fit_of rounds moves

@@ -22,19 +22,19 @@ use Rattle.floats.specs.Floats.{pos_zero, one, abs, half, half_spread, clamp, ex
 use Rattle.floats.proofs.Signs.{abs-plus, plus-finite}
 use Rattle.floats.proofs.Whole.{half-exact}
 use Rattle.floats.proofs.Within.{value-finite, values-le}
-use Rattle.refusals.specs.Refusals.{number_of, refusal, check_number}
-use Rattle.refusals.specs.declared.Check.{Check}
-use Rattle.refusals.specs.declared.Check.TheVariants.{Fine, Refused}
+use Rattle.refusals.specs.Refusals.{number_of, refusal, check_number, Check}
+use Rattle.std.specs.Prelude.{Ok, Err}
 use Rattle.refusals.specs.declared.Refusal.{Refusal}
-use Rattle.refusals.proofs.Refusals.{if-fine, first_fine}
+use Rattle.refusals.proofs.Refusals.{first_fine}
 use Rattle.config.specs.Configuration.{states, valid, check_config}
+use Rattle.config.proofs.Known.{valid-unrefused}
 use Rattle.config.specs.declared.MicroPriceConfig.{MicroPriceConfig}
 use Rattle.quotes.specs.States.{mirror_of, spread_in}
 use Rattle.quotes.proofs.States.{mirror-below, mirror-keeps-spread}
 use Rattle.quotes.proofs.Widths.{width-most}
 use Rattle.tally.specs.Rules.{Memory}
 use Rattle.calibrator.specs.Observe.{check_memory}
-use Rattle.calibrator.specs.declared.Previous.{Previous}
+use Rattle.calibrator.specs.Record.{Previous}
 use Rattle.model.specs.Rows.{row_words, row_at, plus_zeros}
 use Rattle.model.specs.declared.StateEstimate.{StateEstimate}
 use Rattle.model.proofs.Rows.{Held, row_back, row-elsewhere}
@@ -174,11 +174,11 @@ table-rows n rows h i b =
 
 -- ---- the operation
 
-fine-parts : (k : Check) (n : ℕ) (f : Fit) (t : List ℕ) (l : List Float) → (fit_unless k n f t l).answer ≡ Fine → (k ≡ Fine) × (fit_answer f ≡ Fine)
-fine-parts Fine n f t l e = (refl, e)
-fine-parts (Refused r) n f t l e = absurd (zero-not-one cc)
+fine-parts : (k : Check) (n : ℕ) (f : Fit) (t : List ℕ) (l : List Float) → (fit_unless k n f t l).answer ≡ Ok tt → (k ≡ Ok tt) × (fit_answer f ≡ Ok tt)
+fine-parts (Ok _) n f t l e = (refl, e)
+fine-parts (Err r) n f t l e = absurd (zero-not-one cc)
 
-found_of : (G : Given) (f : Fit) → Ended G f → fit_answer f ≡ Fine → Found G f
+found_of : (G : Given) (f : Fit) → Ended G f → fit_answer f ≡ Ok tt → Found G f
 found_of G (fitted rows) e a = e
 found_of G (refused k) e a = let none : check_number (refusal k) ≡ 0 = ap check_number a in absurd (omega (arith, e.0))
 
@@ -209,15 +209,15 @@ module _ (rounds moves : ℕ) (c : MicroPriceConfig) (m : Memory Previous) (t₀
   abbrev table : List ℕ
   table = (fitted_with rounds moves c m t₀ l).model
 
-  module _ (fine : (fitted_with rounds moves c m t₀ l).answer ≡ Fine) where
-    parts : (fit_refusal c m (length l) (length t₀) ≡ Fine) × (fit_answer fit ≡ Fine)
+  module _ (fine : (fitted_with rounds moves c m t₀ l).answer ≡ Ok tt) where
+    parts : (fit_refusal c m (length l) (length t₀) ≡ Ok tt) × (fit_answer fit ≡ Ok tt)
     parts = fine-parts (fit_refusal c m (length l) (length t₀)) (states c) fit t₀ l fine
 
     -- the configuration is valid
     pub fit-valid : valid c ≡ true
     fit-valid =
         let enough = (first_fine (check_memory c m) _ parts.0).0 in
-        not-false (valid c) (if-fine (not (valid c)) 1 refl (first_fine (check_config c) _ enough).0)
+        valid-unrefused c (first_fine (check_config c) _ enough).0
 
     known : Fittable c m (length l) (length t₀)
     known = fit-known c m (length l) (length t₀) parts.0
@@ -290,10 +290,10 @@ module _ (rounds moves : ℕ) (c : MicroPriceConfig) (m : Memory Previous) (t₀
         (subst (λ (x : Float). T (le x (half width))) (sym (ap (λ (x : StateEstimate). abs x.adjustment) e ∙ abs-plus (rows i).adjustment)) k)
 
   -- refused after the checks: 16 to 19
-  pub fit-numbers : (r : Refusal) → fit_refusal c m (length l) (length t₀) ≡ Fine → (fitted_with rounds moves c m t₀ l).answer ≡ Refused r
+  pub fit-numbers : (r : Refusal) → fit_refusal c m (length l) (length t₀) ≡ Ok tt → (fitted_with rounds moves c m t₀ l).answer ≡ Err r
       → (16 ≤ number_of r) × (number_of r ≤ 19)
   fit-numbers r k e = go fit (fit-ended rounds moves G) (ap (λ (x : Check). (fit_unless x (states c) fit t₀ l).answer) (sym k) ∙ e)
     where
-      go : (f : Fit) → Ended G f → fit_answer f ≡ Refused r → (16 ≤ number_of r) × (number_of r ≤ 19)
+      go : (f : Fit) → Ended G f → fit_answer f ≡ Err r → (16 ≤ number_of r) × (number_of r ≤ 19)
       go (fitted rows) d a = absurd (zero-not-one cc)
       go (refused n) d a = subst (λ (x : Check). (16 ≤ check_number x) × (check_number x ≤ 19)) a d

@@ -6,13 +6,12 @@ use mathlib.Core.List.{List}
 use mathlib.Core.Logic.{◌≢◌}
 use lib.ListN.{length}
 use lib.Ieee.{Float}
-use Rattle.refusals.specs.Refusals.{refusal}
-use Rattle.refusals.specs.declared.Check.{Check}
-use Rattle.refusals.specs.declared.Check.TheVariants.{Fine, Refused}
+use Rattle.refusals.specs.Refusals.{refusal, Check}
+use Rattle.std.specs.Prelude.{Ok, Err}
 use Rattle.config.specs.Configuration.{states}
 use Rattle.config.specs.declared.MicroPriceConfig.{MicroPriceConfig}
 use Rattle.tally.specs.Rules.{Memory}
-use Rattle.calibrator.specs.declared.Previous.{Previous}
+use Rattle.calibrator.specs.Record.{Previous}
 use Rattle.fit_marking.specs.Below.{some_to}
 use Rattle.fit_system.specs.Rows.{used}
 use Rattle.fit_system.specs.Solution.{solution_of}
@@ -44,5 +43,5 @@ module _ (r r' moves : ℕ) (fewer : r ≤ r') where
 
       go : (k : Check) → (fit_unless k (states c) (fit_of r moves G) model scratch).answer ≢ refusal 18
           → fit_unless k (states c) (fit_of r' moves G) model scratch ≡ fit_unless k (states c) (fit_of r moves G) model scratch
-      go Fine h = ap (λ (f : Fit). fit_unless Fine (states c) f model scratch) (fit-of-more G (λ e. h (ap fit_answer e)))
-      go (Refused x) h = refl
+      go (Ok _) h = ap (λ (f : Fit). fit_unless (Ok tt) (states c) f model scratch) (fit-of-more G (λ e. h (ap fit_answer e)))
+      go (Err x) h = refl

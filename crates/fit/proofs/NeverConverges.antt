@@ -8,16 +8,16 @@ use lib.IntN.{pos, negsuc}
 use lib.ListN.{length, replicate}
 use lib.Ieee.{Float, nan, add, sub, mul, div, neg, lt, le, eq, is_nan, round, of_bits, of_int}
 use Rattle.basics.specs.Lists.{tab}
-use Rattle.basics.proofs.Lists.{get_d-tab}
+use Rattle.basics.proofs.Lists.{get_or-tab}
 use Rattle.floats.specs.Floats.{pos_zero, abs, as_great, max, is_infinite, tiny}
 use Rattle.refusals.specs.Refusals.{refusal}
-use Rattle.refusals.specs.declared.Check.TheVariants.{Fine}
+use Rattle.std.specs.Prelude.{Ok}
 use Rattle.config.specs.Configuration.{new_config, with_min_state_observations, with_max_quote_gap_ms}
 use Rattle.config.specs.declared.MicroPriceConfig.{MicroPriceConfig}
 use Rattle.tally.specs.Entries.{tables}
 use Rattle.tally.specs.Events.{Counts}
 use Rattle.tally.specs.Rules.{Memory}
-use Rattle.calibrator.specs.declared.Previous.{Previous}
+use Rattle.calibrator.specs.Record.{Previous}
 use Rattle.fit_marking.specs.Below.{sum_to, some_to}
 use Rattle.fit_marking.specs.Marks.{observations, reaches_in, mark_of}
 use Rattle.fit_linear.specs.Arithmetic.{rounded}
@@ -72,7 +72,7 @@ unfolding dot largest part system pivot_row swapped cleared reduced column_solve
 computed-18 = record { some-used = refl; is-solved = refl; given_back = refl; not_infinite = refl; not-tiny = refl }
 
 term-back : SameVector 6 (times rounded 6 B G1) G1
-term-back k h = sym (get_d-tab 6 (times rounded 6 B G1) k nan h) ∙ ap (λ l. float_at l k) computed-18.given_back ∙ get_d-tab 6 G1 k nan h
+term-back k h = sym (get_or-tab 6 (times rounded 6 B G1) k nan h) ∙ ap (λ l. float_at l k) computed-18.given_back ∙ get_or-tab 6 G1 k nan h
 
 -- ---- the fit
 
@@ -96,7 +96,7 @@ module _ (last : Previous) (model : List ℕ) (scratch : List Float) (enough : l
   abbrev m : Memory Previous
   m = record { last = last; counts = counts18 }
 
-  fine-18 : fit_refusal config18 m (length scratch) (length model) ≡ Fine
+  fine-18 : fit_refusal config18 m (length scratch) (length model) ≡ Ok tt
   fine-18 = rw (enough, rows)
 
   -- with any number of rounds, of the series and of the share: scratch is all plus zero, the model table as it was

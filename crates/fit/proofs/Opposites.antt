@@ -18,7 +18,7 @@ use Rattle.floats.proofs.Order.{not-below}
 use Rattle.floats.proofs.Signs.{mul-neg, div-neg, round-zero, sub-turned, abs_neg, abs-finite, plus-neg-plus, plus-sum-zero}
 use Rattle.floats.proofs.Within.{finite-no-nan}
 use Rattle.model.specs.Rows.{plus_zeros}
-use Rattle.model.specs.Status.{status_number}
+use Rattle.model.specs.Status.{status_number, is_calibrated}
 use Rattle.model.specs.declared.StateEstimate.{StateEstimate}
 use Rattle.model.specs.declared.StateStatus.{StateStatus}
 use Rattle.model.specs.declared.StateStatus.TheVariants.{Calibrated, Rare, NoPriceMove, OutsideQuotes}
@@ -26,7 +26,6 @@ use Rattle.model.proofs.Rows.{Held}
 use Rattle.fit_marking.specs.Marks.{Cells, not_rare, reaches_in, mark_of}
 use Rattle.fit_marking.specs.Mirror.{CellsMirror}
 use Rattle.fit_marking.proofs.Mirror.{observations-mirrored, mark-mirrored}
-use Rattle.fit_system.specs.Rows.{is_calibrated}
 use Rattle.fit_estimates.specs.Estimates.{Given, adjusted, judged, estimate_of, estimate, small, representable}
 use Rattle.fit.specs.Models.{Opposite, RowsOpposite}
 

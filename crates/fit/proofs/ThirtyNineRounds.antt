@@ -10,13 +10,12 @@ use lib.Ieee.{add, sub, mul, div, neg, lt, le, eq, is_nan, round, of_bits, of_in
 use Rattle.basics.proofs.Tests.{zero-not-one}
 use Rattle.floats.specs.Floats.{pos_zero, abs, as_great, max, is_infinite, clamp, plus_zero, half}
 use Rattle.refusals.specs.Refusals.{refusal}
-use Rattle.refusals.specs.declared.Check.TheVariants.{Fine}
+use Rattle.std.specs.Prelude.{None, Ok}
 use Rattle.config.specs.Configuration.{new_config, with_min_state_observations, with_max_quote_gap_ms}
 use Rattle.config.specs.declared.MicroPriceConfig.{MicroPriceConfig}
 use Rattle.tally.specs.Entries.{tables}
 use Rattle.tally.specs.Rules.{Memory}
-use Rattle.calibrator.specs.declared.Previous.{Previous}
-use Rattle.calibrator.specs.declared.Previous.TheVariants.{Nothing}
+use Rattle.calibrator.specs.Record.{Previous}
 use Rattle.fit_marking.specs.Below.{sum_to, some_to}
 use Rattle.fit_marking.specs.Marks.{observations, reaches_in, mark_of}
 use Rattle.fit_linear.specs.Elimination.{system, pivot_row, swapped, cleared, reduced, column_solved, columns_solved}
@@ -35,7 +34,7 @@ config39 = with_max_quote_gap_ms (with_min_state_observations (new_config 1 3 1)
 abbrev pub memory39 : Memory Previous
 memory39 =
     record {
-      last = Nothing;
+      last = None;
       counts =
           record {
             pairs = 2;
@@ -56,7 +55,7 @@ refused39 = end_fit (refusal 18) (replicate 21 0) (replicate 48 pos_zero)
 -- a state a line: bucket, spread, observations, first adjustment, adjustment, share, status
 abbrev pub found39 : FitOutcome
 found39 =
-    end_fit Fine
+    end_fit (Ok tt)
     (1 ∷ 1 ∷ 2 ∷ 0xbfd0_0000_0000_0000 ∷ 0xbfdf_ffff_ffff_e000 ∷ 0x3fef_f800_0000_0000 ∷ 0
     ∷ 2 ∷ 1 ∷ 0 ∷ 0 ∷ 0 ∷ 0x3ff0_0000_0000_0000 ∷ 1
     ∷ 3 ∷ 1 ∷ 2 ∷ 0x3fd0_0000_0000_0000 ∷ 0x3fdf_ffff_ffff_e000 ∷ 0x3fef_f800_0000_0000 ∷ 0 ∷ [])
@@ -74,7 +73,7 @@ from-39 rounds h = fit-more 39 rounds 10 h config39 memory39 (replicate 21 0) (r
   where
     not-18 : (with_rounds 39).answer ≢ refusal 18
     not-18 e =
-        let d : Fine ≡ refusal 18 = sym (ap (λ (o : FitOutcome). o.answer) computed-39.1) ∙ e in
+        let d : Ok tt ≡ refusal 18 = sym (ap (λ (o : FitOutcome). o.answer) computed-39.1) ∙ e in
         zero-not-one (cc d)
 
 -- with document 01's 10,000

@@ -1,16 +1,14 @@
 -- The fit: document 01, "The fit".
-use Rattle.std.specs.Prelude.{ℕ, zero, suc, ◌+◌, ◌*◌, Bool, not, cond, ◌||◌, List, [], ◌++◌, eqb, length, replicate, Float}
+use Rattle.std.specs.Prelude.{ℕ, zero, suc, ◌+◌, ◌*◌, Bool, not, cond, ◌||◌, List, [], ◌++◌, eqb, length, replicate, Float, Ok, Err}
 use Rattle.floats.specs.Floats.{pos_zero}
-use Rattle.refusals.specs.Refusals.{refusal, refuse_if, first_of}
-use Rattle.refusals.specs.declared.Check.{Check}
-use Rattle.refusals.specs.declared.Check.TheVariants.{Fine, Refused}
+use Rattle.refusals.specs.Refusals.{refusal, refuse_if, first_of, Check}
 use Rattle.config.specs.Configuration.{states}
 use Rattle.config.specs.declared.MicroPriceConfig.{MicroPriceConfig}
 use Rattle.quotes.specs.States.{mirror_of, bucket_in, spread_in}
 use Rattle.tally.specs.Events.{Counts}
 use Rattle.tally.specs.Rules.{Memory}
 use Rattle.calibrator.specs.Observe.{check_memory}
-use Rattle.calibrator.specs.declared.Previous.{Previous}
+use Rattle.calibrator.specs.Record.{Previous}
 use Rattle.count_check.specs.Mirrors.{check_mirrored}
 use Rattle.model.specs.Rows.{row_words}
 use Rattle.model.specs.declared.StateEstimate.{StateEstimate}
@@ -85,7 +83,7 @@ end_fit answer model scratch = record { answer = answer; model = model; scratch 
 
 -- the table is written only on success
 abbrev pub fit_answer : Fit → Check
-fit_answer (fitted rows) = Fine
+fit_answer (fitted rows) = Ok tt
 fit_answer (refused k) = refusal k
 
 abbrev pub model_after : ℕ → Fit → List ℕ → List ℕ
@@ -94,8 +92,8 @@ model_after N (refused k) model = model
 
 -- what is refused before the fit changes nothing; else scratch is all plus zero
 abbrev pub fit_unless : Check → ℕ → Fit → List ℕ → List Float → FitOutcome
-fit_unless Fine N f model scratch = end_fit (fit_answer f) (model_after N f model) (replicate (length scratch) pos_zero)
-fit_unless (Refused r) N f model scratch = end_fit (Refused r) model scratch
+fit_unless (Ok _) N f model scratch = end_fit (fit_answer f) (model_after N f model) (replicate (length scratch) pos_zero)
+fit_unless (Err r) N f model scratch = end_fit (Err r) model scratch
 
 abbrev pub fitted_with : ℕ → ℕ → MicroPriceConfig → Memory Previous → List ℕ → List Float → FitOutcome
 fitted_with rounds moves c m model scratch =

@@ -1,11 +1,12 @@
 -- For the contracts and proofs of inner functions alone: what the functions inside the fit ask and leave.
 use Rattle.std.specs.Prelude.{ℕ, ◌+◌, ◌<◌, ◌≤◌, ◌≡◌, List, ℤ, length, get_or, Float}
 use Rattle.basics.specs.Domain.{most}
-use Rattle.fit_marking.specs.Marks.{cells_of, Fitting}
+use Rattle.fit_marking.specs.Marks.{cells_of}
+use Rattle.fit_marking.specs.Inner.{Fitting}
 use Rattle.fit_linear.specs.Inner.{from}
 use Rattle.fit_series.specs.Inner.{sum_at, share_at, solved_g1}
 use Rattle.fit_system.specs.Rows.{total_of}
-use Rattle.refusals.specs.declared.Check.{Check}
+use Rattle.refusals.specs.Refusals.{Check}
 use Rattle.model.specs.declared.StateEstimate.{StateEstimate}
 use Rattle.quotes.specs.States.{bucket_in, spread_in}
 use Rattle.fit_estimates.specs.Estimates.{Given, estimate}

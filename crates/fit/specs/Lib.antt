@@ -1,3 +1,4 @@
 pub mod Fit
 pub mod Models
 pub mod Inner
+pub mod InnerInput

@@ -4,12 +4,11 @@ use Rattle.std.specs.Float.{binary64}
 use Rattle.std.specs.Float.Ieee.{sub, mul, div, lt, of_bits}
 use Rattle.floats.specs.Floats as Floats
 use Rattle.floats.specs.Floats.{one, two, half_tick, half_spread}
-use Rattle.model.specs.Status.{status_number}
+use Rattle.model.specs.Status.{status_number, is_calibrated}
 use Rattle.model.specs.declared.StateEstimate.{StateEstimate}
 use Rattle.model.specs.declared.StateStatus.{StateStatus}
 use Rattle.model.specs.declared.StateStatus.TheVariants.{Calibrated, Rare, NoPriceMove, OutsideQuotes}
 use Rattle.fit_marking.specs.Marks.{Cells, observations, mark_of}
-use Rattle.fit_system.specs.Rows.{is_calibrated}
 use Rattle.fit_estimates.specs.declared.Solved.{Solved}
 
 -- what a fit is given: the cells, the move totals, the tick, and each state's mirror, bucket from 1 and spread in ticks

@@ -5,12 +5,10 @@
 ghost use Rattle.std.specs.Prelude.{◌≡◌, cond, ◌≤◌};
 ghost use Rattle.basics.specs.Domain.{most};
 ghost use Rattle.floats.specs.Floats.{one};
-ghost use Rattle.model.specs.Status.{status_number};
-ghost use Rattle.model.specs.declared.StateStatus.{StateStatus};
-ghost use Rattle.fit_system.specs.Rows.{is_calibrated};
+ghost use Rattle.model.specs.Status.{is_calibrated};
 ghost use Rattle.fit_estimates.specs.Estimates.{adjusted, judged, estimate_of, small, representable};
 
-use model::StateEstimate;
+use model::{StateEstimate, StateStatus};
 
 // What the solution has for a state and for its mirror.
 #[derive(Clone, Copy)]
@@ -22,6 +20,7 @@ pub struct Solved {
     pub share: f64,
 }
 
+#[tactic(auto, unfolding(crate::specs::Estimates::adjusted))]
 fn adjust(tick: u64, own: f64, mirrored: f64) -> f64
     requires { tick ≤ most }
     ensures { result ≡ adjusted tick own mirrored }
@@ -29,39 +28,37 @@ fn adjust(tick: u64, own: f64, mirrored: f64) -> f64
     (own - mirrored) / 2.0 * floats::inner::half_tick(tick)
 }
 
-// The status, by the number of the mark.
-fn judge_status(mark: u64, half: f64, adjustment: f64) -> u64
-    ensures { (m : StateStatus) → mark ≡ status_number m → result ≡ status_number (judged m half adjustment) }
+// The status, by the mark.
+fn judge_status(mark: StateStatus, half: f64, adjustment: f64) -> StateStatus
+    ensures { result ≡ judged mark half adjustment }
 {
-    if mark != 0 {
-        return mark;
+    if mark == StateStatus::Calibrated && half < floats::abs(adjustment) {
+        return StateStatus::OutsideQuotes;
     }
-    if half < floats::abs(adjustment) {
-        return 3;
-    }
-    0
+    mark
 }
 
-// The share, by the number of the mark.
-fn share_of(mark: u64, share: f64) -> f64
-    ensures { (m : StateStatus) → mark ≡ status_number m → result ≡ cond (is_calibrated m) share one }
+// The share, by the mark.
+fn share_of(mark: StateStatus, share: f64) -> f64
+    ensures { result ≡ cond (is_calibrated mark) share one }
 {
-    if mark == 0 {
+    if mark == StateStatus::Calibrated {
         return share;
     }
     1.0
 }
 
+#[tactic(auto, unfolding(crate::specs::Estimates::estimate_of))]
 pub fn estimate_of(
     tick: u64,
     bucket: u64,
     spread: u64,
-    mark: u64,
+    mark: StateStatus,
     observed: u64,
     s: Solved,
 ) -> StateEstimate
     requires { (tick ≤ most) × (spread ≤ 256) }
-    ensures { (m : StateStatus) → mark ≡ status_number m → result ≡ estimate_of tick bucket spread m observed s }
+    ensures { result ≡ estimate_of tick bucket spread mark observed s }
 {
     let adjustment = adjust(tick, s.own, s.mirrored);
     let half = floats::inner::half_spread(tick, spread);
@@ -70,9 +67,9 @@ pub fn estimate_of(
         spread_ticks: spread,
         observations: observed,
         first_adjustment: adjust(tick, s.first_own, s.first_mirrored),
-        adjustment: adjustment,
+        adjustment,
         fallback_within_moves: share_of(mark, s.share),
-        status: judge_status(mark, half, adjustment),
+        status: u64::from(judge_status(mark, half, adjustment)),
     }
 }
 

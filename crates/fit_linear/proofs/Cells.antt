@@ -8,10 +8,11 @@ use native.Mathlib.Omega.{arith}
 use borrow.Author.Tests.{eqb-true, eqb-false}
 use lib.Dec.{eqb}
 use lib.Ieee.{Float}
+use Rattle.std.specs.Prelude.{⊤, Result}
 use Rattle.fit_linear.specs.Arithmetic.{Arith, rounded}
 use Rattle.fit_linear.specs.Elimination.{Elimination, solved, singular, matrix_of, and_then, Matrix, pivot_row, swapped, normalized, cleared, reduced, column_solved, columns_solved, gauss_jordan}
 use Rattle.fit_linear.specs.Inner.{rows_of, solve_of, Eliminated}
-use Rattle.fit_linear.specs.declared.Solve.{Solve}
+use Rattle.fit_linear.specs.declared.Singular.{Singular}
 use Rattle.fit_linear.proofs.Pivot.{pivot-within}
 use Rattle.fit_linear.proofs.Steps.{reduced-own, reduced-other}
 
@@ -85,7 +86,7 @@ module _ (F : Arith) (n w : ℕ) (narrow : n ≤ w) where
   answer-same A B h = columns-same A B h n (omega arith)
 
 -- what elimination leaves, given by an answer that agrees
-module _ {n w : ℕ} {l m : List Float} {x : Solve} where
+module _ {n w : ℕ} {l m : List Float} {x : Result ⊤ Singular} where
   like : (a b : Elimination Float) → solve_of a ≡ solve_of b → Same n w (matrix_of a) (matrix_of b) → Eliminated n w a l x m → Eliminated n w b l x m
   like a b h s e =
       record {
@@ -100,6 +101,6 @@ module _ {n w : ℕ} {l m : List Float} {x : Solve} where
   eliminated-same (singular A) (singular B) h = like _ _ refl h
 
 -- elimination of rows that hold A
-pub eliminated-of : (n w : ℕ) → n ≤ w → (l m : List Float) (x : Solve) (A : ℕ → ℕ → Float) → Same n w (rows_of w l) A
+pub eliminated-of : (n w : ℕ) → n ≤ w → (l m : List Float) (x : Result ⊤ Singular) (A : ℕ → ℕ → Float) → Same n w (rows_of w l) A
     → Eliminated n w (gauss_jordan rounded n (rows_of w l)) l x m → Eliminated n w (gauss_jordan rounded n A) l x m
 eliminated-of n w narrow l m x A h = eliminated-same _ _ (answer-same rounded n w narrow (rows_of w l) A h)

@@ -1,45 +1,46 @@
 -- One column after the other on flat rows.
-use Prim.Native.Nat.{ℕ, zero, suc, ◌+◌, ◌-◌, ◌*◌, ◌<◌, ◌≤◌}
+use Prim.Native.Nat.{ℕ, zero, suc, ◌+◌, ◌-◌, ◌<◌, ◌≤◌}
 use mathlib.Core.Path.{◌≡◌, refl, ◌∙◌}
 use mathlib.Core.Bool.{true, false}
 use mathlib.Core.List.{List}
 use native.Mathlib.Nat.{add-zero, add-suc}
 use native.Mathlib.Numerals.{add-one}
 use native.Mathlib.Omega.{arith}
-use lib.Ieee.{Float, binary64, div, lt}
+use lib.Ieee.{Float, lt}
+use Rattle.std.specs.Prelude.{⊤, Result, Ok, Err, IsErr}
+use Rattle.std.proofs.lemmas.Bool.{false≢true}
 use Rattle.basics.proofs.Tests.{zero-not-one}
 use Rattle.floats.specs.Floats.{abs, tiny}
 use Rattle.fit_linear.specs.Arithmetic.{rounded}
-use Rattle.fit_linear.specs.Elimination.{Elimination, solved, singular, and_then, pivot_row, column_solved, columns_solved, gauss_jordan}
-use Rattle.fit_linear.specs.Inner.{from, rows_of, Becomes, Eliminated, Filled, Swapped, ClearedRows}
-use Rattle.fit_linear.specs.declared.Solve.{Solve}
-use Rattle.fit_linear.specs.declared.Solve.TheVariants.{Solved, Singular}
+use Rattle.fit_linear.specs.Elimination.{Elimination, solved, singular, and_then, pivot_row, swapped, reduced, column_solved, columns_solved, gauss_jordan}
+use Rattle.fit_linear.specs.Inner.{rows_of, Becomes, Eliminated}
+use Rattle.fit_linear.specs.declared.Singular.{Singular}
 use Rattle.fit_linear.proofs.Cells.{column-same, eliminated-same}
-use Rattle.fit_linear.proofs.Rows.{column-becomes}
+
+-- an error says no more than that it is one
+pub error-is : (x : Result ⊤ Singular) → IsErr x → x ≡ Err (record {})
+error-is (Ok v) h = absurd (false≢true h)
+error-is (Err e) h = refl
 
 -- ---- one column: the pivot's row p is found, and the pivot's size x
 
 module _ (n w c p : ℕ) {l : List Float} {x : Float} (found : (p < n) × (p ≡ pivot_row rounded (rows_of w l) c (n - (c + 1))))
     (size : x ≡ abs (rows_of w l p c)) where
   -- too small: nothing is written
-  pub column-singular : lt x tiny ≡ true → Eliminated n w (column_solved rounded n (rows_of w l) c) l Singular l
+  pub column-singular : lt x tiny ≡ true → Eliminated n w (column_solved rounded n (rows_of w l) c) l (Err (record {})) l
   unfolding column_solved
   column-singular h = rw (← found.1, ← size, h) (record { answers = refl; becomes = record { cells = λ r k hr hk. refl; elsewhere = λ i hi. refl } })
 
-  -- else rows c and p change places, row c is divided by the pivot, and the rows above it and then those below it are cleared
-  pub column-solved : {m d e f : List Float} → c < n → n ≤ w → lt x tiny ≡ false
-      → Swapped (c * w) (p * w) w l m
-      → Filled (c * w) w (λ k. div binary64 (from (c * w) m k) (rows_of w m c c)) m d
-      → ClearedRows w c 0 c d e
-      → ClearedRows w c (c + 1) n e f
-      → Eliminated n w (column_solved rounded n (rows_of w l) c) l Solved f
+  -- else rows c and p change places, row c is divided by the pivot, and the rows above it and below it are cleared
+  pub column-solved : {f : List Float} → lt x tiny ≡ false
+      → Becomes n w (reduced rounded (swapped rounded (rows_of w l) c p) c) l f
+      → Eliminated n w (column_solved rounded n (rows_of w l) c) l (Ok tt) f
   unfolding column_solved
-  column-solved hc narrow h s t u v =
-      rw (← found.1, ← size, h) (record { answers = refl; becomes = column-becomes n w c p hc found.0 narrow s t u v })
+  column-solved h b = rw (← found.1, ← size, h) (record { answers = refl; becomes = b })
 
 -- ---- all columns
 
-pub columns-none : {n w : ℕ} {l : List Float} → Eliminated n w (columns_solved rounded n (rows_of w l) 0) l Solved l
+pub columns-none : {n w : ℕ} {l : List Float} → Eliminated n w (columns_solved rounded n (rows_of w l) 0) l (Ok tt) l
 unfolding columns_solved
 columns-none = record { answers = refl; becomes = record { cells = λ r k hr hk. refl; elsewhere = λ i hi. refl } }
 
@@ -50,12 +51,12 @@ stays n c zero A B h = rw (add-zero c) h
 stays n c (suc k) A B h = rw (add-suc c k, stays n c k A B h)
 
 -- so a singular column makes the whole singular
-all-singular : (n w c : ℕ) (l m : List Float) → c ≤ n → Eliminated n w (columns_solved rounded n (rows_of w l) c) l Singular m
-    → Eliminated n w (gauss_jordan rounded n (rows_of w l)) l Singular m
+all-singular : (n w c : ℕ) (l m : List Float) → c ≤ n → Eliminated n w (columns_solved rounded n (rows_of w l) c) l (Err (record {})) m
+    → Eliminated n w (gauss_jordan rounded n (rows_of w l)) l (Err (record {})) m
 all-singular n w c l m hc e = go (columns_solved rounded n (rows_of w l) c) refl e
   where
-    go : (a : Elimination Float) → columns_solved rounded n (rows_of w l) c ≡ a → Eliminated n w a l Singular m
-        → Eliminated n w (gauss_jordan rounded n (rows_of w l)) l Singular m
+    go : (a : Elimination Float) → columns_solved rounded n (rows_of w l) c ≡ a → Eliminated n w a l (Err (record {})) m
+        → Eliminated n w (gauss_jordan rounded n (rows_of w l)) l (Err (record {})) m
     go (solved A) h e = absurd (zero-not-one (cc e.answers))
     go (singular A) h e =
         let z : c + (n - c) ≡ n = omega arith in
@@ -63,8 +64,8 @@ all-singular n w c l m hc e = go (columns_solved rounded n (rows_of w l) c) refl
         rw s e
 
 -- the first c columns are solved, and the answer for column c is x
-module _ (n w c : ℕ) {l m m' : List Float} {x : Solve} (narrow : n ≤ w) (hc : c < n)
-    (s : Eliminated n w (columns_solved rounded n (rows_of w l) c) l Solved m)
+module _ (n w c : ℕ) {l m m' : List Float} {x : Result ⊤ Singular} (narrow : n ≤ w) (hc : c < n)
+    (s : Eliminated n w (columns_solved rounded n (rows_of w l) c) l (Ok tt) m)
     (e : Eliminated n w (column_solved rounded n (rows_of w m) c) m x m') where
   -- column c of a list that holds A
   next : (A : ℕ → ℕ → Float) → Becomes n w A l m → Eliminated n w (column_solved rounded n A c) l x m'
@@ -79,14 +80,14 @@ module _ (n w c : ℕ) {l m m' : List Float} {x : Solve} (narrow : n ≤ w) (hc 
   unfolding columns_solved
   column = rw add-one (go (columns_solved rounded n (rows_of w l) c) s)
     where
-      go : (a : Elimination Float) → Eliminated n w a l Solved m → Eliminated n w (and_then a (λ B. column_solved rounded n B c)) l x m'
+      go : (a : Elimination Float) → Eliminated n w a l (Ok tt) m → Eliminated n w (and_then a (λ B. column_solved rounded n B c)) l x m'
       go (solved A) s = next A s.becomes
       go (singular A) s = absurd (zero-not-one (cc s.answers))
 
   -- one column more
-  pub columns-more : x ≡ Solved → Eliminated n w (columns_solved rounded n (rows_of w l) (c + 1)) l Solved m'
+  pub columns-more : x ≡ Ok tt → Eliminated n w (columns_solved rounded n (rows_of w l) (c + 1)) l (Ok tt) m'
   columns-more h = rw h at column
 
   -- a singular column ends the elimination
-  pub columns-singular : x ≡ Singular → Eliminated n w (gauss_jordan rounded n (rows_of w l)) l Singular m'
+  pub columns-singular : x ≡ Err (record {}) → Eliminated n w (gauss_jordan rounded n (rows_of w l)) l (Err (record {})) m'
   columns-singular h = all-singular n w (c + 1) l m' (omega arith) (rw h at column)

@@ -1,6 +1,6 @@
 -- Parts of a flat list that a loop fills from the first place up.
-use Prim.Native.Nat.{ℕ, ◌+◌, ◌*◌, ◌<◌, ◌≤◌}
-use mathlib.Core.Path.{◌≡◌, refl, ◌∙◌}
+use Prim.Native.Nat.{ℕ, ◌+◌, ◌-◌, ◌*◌, ◌<◌, ◌≤◌}
+use mathlib.Core.Path.{◌≡◌, refl, ap, ◌∙◌}
 use mathlib.Core.List.{List}
 use mathlib.Core.Logic.{◌≢◌, ◌⊎◌, inl, inr, ⊎_elim}
 use mathlib.Core.Bool.{Bool, true, false}
@@ -11,7 +11,12 @@ use lib.Dec.{ltb}
 use lib.ListN.{length, set, length-set}
 use lib.Seq.{get_or-set_same, get_or-set_other}
 use lib.Ieee.{Float, nan}
-use Rattle.basics.proofs.Tests.{row_in}
+use borrow.Rule.Slice.PartMut.{put_mid}
+use Rattle.std.proofs.Common.{rules}
+use Rattle.std.proofs.lemmas.List.{places}
+use Rattle.std.proofs.lemmas.List.Edits.{get_or-between, length-between}
+use Rattle.std.specs.List.{between, CopiedTo, SameBelow, SameFrom}
+use Rattle.basics.proofs.Tests.{le-or-lt, row_in}
 use Rattle.fit_linear.specs.Inner.{float_at, from, Outside, Filled, Swapped}
 
 -- ---- rows
@@ -27,6 +32,13 @@ rows_apart w r s h = go (ltb r s) refl
 -- a place of row r is outside row s
 pub outside-row : (w r s k : ℕ) → r ≢ s → k < w → Outside (s * w) w (r * w + k)
 outside-row w r s k h g = ⊎_elim (λ q. inl (omega arith)) (λ q. inr (omega arith)) (rows_apart w r s h)
+
+-- the rows below row c, the rows above it and row c
+pub rows-below : (n w c : ℕ) → c < n → (n - (c + 1)) * w + (c * w + w) ≡ n * w
+rows-below n w c h = let all : n - (c + 1) + (c + 1) ≡ n = omega arith in go (n - (c + 1)) ∙ ap (λ x. x * w) all
+  where
+    go : (d : ℕ) → d * w + (c * w + w) ≡ (d + (c + 1)) * w
+    go d = omega arith
 
 -- ---- one part
 
@@ -74,32 +86,81 @@ module _ {base n k : ℕ} {v : ℕ → Float} {l m : List Float} (f : Filling ba
   pub filling-all : n ≤ k → Filled base n v l m
   filling-all h = let all : k ≡ n = omega (arith, f.most) in rw all at f.part
 
--- four more at once
-pub filled-four : {base k : ℕ} {v : ℕ → Float} {l m : List Float} → Filled base k v l m → (a b c d : Float) → base + k + 3 < length m → a ≡ v k → b ≡ v (k + 1)
-    → c ≡ v (k + 2) → d ≡ v (k + 3)
-    → Filled base (k + 4) v l (set (set (set (set m (base + k) a) (base + k + 1) b) (base + k + 2) c) (base + k + 3) d)
-filled-four {base} {k} {v} {l} {m} f a b c d h ea eb ec ed =
-    let i1 : base + k + 1 ≡ base + (k + 1) = omega arith in
-    let i2 : base + k + 2 ≡ base + (k + 1 + 1) = omega arith in
-    let i3 : base + k + 3 ≡ base + (k + 1 + 1 + 1) = omega arith in
-    let k2 : k + 2 ≡ k + 1 + 1 = omega arith in
-    let k3 : k + 3 ≡ k + 1 + 1 + 1 = omega arith in
-    let k4 : k + 4 ≡ k + 1 + 1 + 1 + 1 = omega arith in
-    rw (i1, i2, i3, k4)
-    (filled_more
-    (filled_more
-    (filled_more (filled_more f a (omega arith) ea) b (simp length-set (omega arith)) eb)
-    c
-    (simp length-set (omega arith))
-    (rw k2 at ec))
-    d
-    (simp length-set (omega arith))
-    (rw k3 at ed))
+-- ---- a list that a loop writes from the first place up
+
+-- the first k places hold the first k of a vector
+pub record Rewriting (v : ℕ → Float) (before : List Float) (k : ℕ) (after : List Float) : Type 0 where
+  pub done : (j : ℕ) → j < k → float_at after j ≡ v j
+  pub ahead : (j : ℕ) → k ≤ j → float_at after j ≡ float_at before j
+
+pub rewriting-none : {v : ℕ → Float} {l : List Float} → Rewriting v l 0 l
+rewriting-none = record { done = λ j h. absurd (omega arith); ahead = λ j h. refl }
+
+pub rewriting-more : {v : ℕ → Float} {l m : List Float} {k : ℕ} {x : Float} → Rewriting v l k m → k < length m → x ≡ v k → Rewriting v l (k + 1) (set m k x)
+rewriting-more {v} {l} {m} {k} {x} s h e =
+    record {
+      done =
+          below_more (λ j. float_at (set m k x) j ≡ v j) k
+          (λ j g. let d : j ≢ k = omega arith in get_or-set_other m k j x nan d ∙ s.done j g)
+          (get_or-set_same m k x nan h ∙ e);
+      ahead = λ j g. let d : j ≢ k = omega arith in get_or-set_other m k j x nan d ∙ s.ahead j (omega arith);
+    }
+
+-- ---- a part that is written at once
+
+module _ (base n : ℕ) (l part : List Float) (within : base + n ≤ length l) (as_long : length part ≡ n) where
+  put-before : (i : ℕ) → i < base → float_at (put_mid base n l part) i ≡ float_at l i
+  put-before i h = search (rules, places)
+
+  put-in : (k : ℕ) → k < n → from base (put_mid base n l part) k ≡ float_at part k
+  put-in k h = search (rules, places)
+
+  put-behind : (i : ℕ) → base + n ≤ i → float_at (put_mid base n l part) i ≡ float_at l i
+  put-behind i h = search (rules, places)
+
+  pub filled-part : {v : ℕ → Float} → ((k : ℕ) → k < n → float_at part k ≡ v k) → Filled base n v l (put_mid base n l part)
+  filled-part c = record { cells = λ k h. put-in k h ∙ c k h; elsewhere = λ i h. ⊎_elim (put-before i) (put-behind i) h }
+
+-- what a part of a list holds
+pub part-at : (base n k : ℕ) (l : List Float) → k < n → float_at (between base (base + n) l) k ≡ from base l k
+part-at base n k l h = get_or-between l base (base + n) k nan (omega arith)
+
+-- a part of which each float is made into another
+pub mapped-part : (f : Float → Float) (base n : ℕ) (l part : List Float) → base + n ≤ length l → length part ≡ n
+    → ((k : ℕ) → k < length (between base (base + n) l) → float_at part k ≡ f (float_at (between base (base + n) l) k))
+    → Filled base n (λ k. f (from base l k)) l (put_mid base n l part)
+mapped-part f base n l part h e c =
+    filled-part base n l part h e (λ k g. c k (rw (length-between l base (base + n) h) (omega arith)) ∙ ap f (part-at base n k l g))
+
+-- a part copied from another place
+pub copied-part : {l m : List Float} (a to n : ℕ) → CopiedTo l m a to n → SameBelow l m to → SameFrom l m (to + n) → Filled to n (from a l) l m
+copied-part {l} a to n c b f =
+    record {
+      cells = λ k h.
+          let e : to + k - to ≡ k = omega arith in
+          rw e at (c (to + k) nan (omega arith) (omega arith));
+      elsewhere = λ i h. ⊎_elim (b i nan) (f i nan) h;
+    }
+
+-- a part of k and the n after it
+pub filled-after : {base k n : ℕ} {v : ℕ → Float} {l m m' : List Float} → Filled base k v l m → Filled (base + k) n (λ j. v (k + j)) m m'
+    → Filled base (k + n) v l m'
+filled-after {base} {k} {n} {v} {l} {m} {m'} f g =
+    record {
+      cells = λ j h.
+          ⊎_elim
+          (λ (q : k ≤ j).
+          let e : k + (j - k) ≡ j = omega arith in
+          let i : base + k + (j - k) ≡ base + j = omega arith in
+          rw (e, i) at (g.cells (j - k) (omega arith)))
+          (λ (q : j < k). g.elsewhere (base + j) (inl (omega arith)) ∙ f.cells j q)
+          (le-or-lt k j);
+      elsewhere = λ i h.
+          g.elsewhere i (⊎_elim (λ q. inl (omega arith)) (λ q. inr (omega arith)) h)
+          ∙ f.elsewhere i (⊎_elim (λ q. inl q) (λ q. inr (omega arith)) h);
+    }
 
 -- ---- two parts that change places
-
-pub swapped-none : {a b : ℕ} {l : List Float} → Swapped a b 0 l l
-swapped-none = record { first = λ k h. absurd (omega arith); second = λ k h. absurd (omega arith); elsewhere = λ i h g. refl }
 
 -- a part with itself
 pub swapped-self : {a n : ℕ} {l : List Float} → Swapped a a n l l

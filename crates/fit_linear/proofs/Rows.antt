@@ -1,70 +1,72 @@
 -- One column's steps on flat rows are the steps of the matrix that the rows hold.
-use Prim.Native.Nat.{ℕ, ◌+◌, ◌*◌, ◌<◌, ◌≤◌}
-use mathlib.Core.Path.{◌≡◌, refl, sym, ◌∙◌}
+use Prim.Native.Nat.{ℕ, ◌+◌, ◌-◌, ◌*◌, ◌<◌, ◌≤◌}
+use mathlib.Core.Path.{◌≡◌, refl, sym, ap, ◌∙◌}
 use mathlib.Core.Bool.{Bool, true, false, cond}
-use mathlib.Core.List.{List}
-use mathlib.Core.Logic.{◌≢◌, ◌⊎◌, inl, inr, ⊎_elim}
-use native.Mathlib.Nat.{mul-le-mul_right, suc-mul, eq-or-lt_of_le}
+use mathlib.Core.List.{List, ◌++◌}
+use mathlib.Core.Logic.{inr, ⊎_elim}
+use native.Mathlib.Nat.{suc-mul, eq-or-lt_of_le}
 use native.Mathlib.Numerals.{add-one}
 use native.Mathlib.Omega.{arith}
 use borrow.Author.Tests.{eqb-true, eqb-false}
 use lib.Dec.{eqb}
-use lib.Ieee.{Float, binary64, sub, mul, div, eq}
+use lib.Ieee.{Float, nan, binary64, sub, mul, div, eq}
+use lib.ListN.{length, get_or-append}
+use borrow.Rule.Slice.PartMut.{put_mid}
+use Rattle.std.specs.List.{between}
+use Rattle.std.proofs.Common.{rules}
+use Rattle.std.proofs.lemmas.List.{places}
+use Rattle.std.proofs.lemmas.List.Edits.{length-between}
 use Rattle.basics.proofs.Tests.{row_in}
 use Rattle.floats.specs.Floats.{pos_zero}
 use Rattle.floats.proofs.Signs.{Three, less, same, more, three}
 use Rattle.fit_linear.specs.Arithmetic.{rounded}
 use Rattle.fit_linear.specs.Elimination.{swapped, normalized, cleared, reduced}
-use Rattle.fit_linear.specs.Inner.{from, rows_of, Becomes, Filled, Swapped, ClearedRows}
+use Rattle.fit_linear.specs.Inner.{float_at, rows_of, Becomes, Filled, Swapped}
 use Rattle.fit_linear.proofs.Steps.{reduced-own, reduced-other}
-use Rattle.fit_linear.proofs.Parts.{outside-row}
+use Rattle.fit_linear.proofs.Parts.{outside-row, rows-below, filled-part, part-at}
 
--- ---- one row cleared
+-- ---- rows cleared
 
-module _ (w c r : ℕ) (l : List Float) where
-  abbrev pub cleared_row : ℕ → Float
-  cleared_row = cleared rounded (rows_of w l r c) (rows_of w l r) (rows_of w l c)
-
-  pub clear_none : eq (rows_of w l r c) pos_zero ≡ true → Filled (r * w) w cleared_row l l
+module _ (factor : Float) (row top : ℕ → Float) (k : ℕ) where
+  pub cleared-skipped : eq factor pos_zero ≡ true → cleared rounded factor row top k ≡ row k
   unfolding cleared
-  clear_none h = record { cells = λ k g. rw h; elsewhere = λ i g. refl }
+  cleared-skipped h = rw h
 
-  pub clear-some : {m : List Float} → eq (rows_of w l r c) pos_zero ≡ false
-      → Filled (r * w) w (λ k. sub binary64 (rows_of w l r k) (mul binary64 (rows_of w l r c) (rows_of w l c k))) l m
-      → Filled (r * w) w cleared_row l m
+  pub cleared-done : eq factor pos_zero ≡ false → cleared rounded factor row top k ≡ sub binary64 (row k) (mul binary64 factor (top k))
   unfolding cleared
-  clear-some h f = record { cells = λ k g. rw h (f.cells k g); elsewhere = f.elsewhere }
+  cleared-done h = rw h
 
--- ---- rows lo to r cleared
+pub rows-none : {w : ℕ} {A : ℕ → ℕ → Float} {l : List Float} → Becomes 0 w A l l
+rows-none = record { cells = λ r k h g. absurd (omega arith); elsewhere = λ i h. refl }
 
-pub cleared-rows-none : {w c lo : ℕ} {l : List Float} → ClearedRows w c lo lo l l
-cleared-rows-none = record { cells = λ r k h g j. absurd (omega arith); elsewhere = λ i h. refl }
-
-pub cleared-rows-more : {w c lo r : ℕ} {l m m' : List Float} → c < w → lo ≤ r → (c < lo) ⊎ (r < c)
-    → ClearedRows w c lo r l m → Filled (r * w) w (cleared_row w c r m) m m' → ClearedRows w c lo (r + 1) l m'
-unfolding cleared
-cleared-rows-more {w} {c} {lo} {r} {l} {m} hc low apart s f =
+-- row r is written
+pub rows-more : {w r : ℕ} {A : ℕ → ℕ → Float} {l m m' : List Float} → Becomes r w A l m → Filled (r * w) w (A r) m m' → Becomes (r + 1) w A l m'
+rows-more {w} {r} {A} s f =
     record {
-      cells = λ q k h g j.
+      cells = λ q k h g.
           ⊎_elim
-          (λ (e : q ≡ r). rw e (f.cells k j ∙ rw (ahead c hc, ahead k j, top k j)))
-          (λ (e : q < r). f.elsewhere (q * w + k) (outside-row w q r k (omega arith) j) ∙ s.cells q k h e j)
+          (λ (e : q ≡ r). rw e (f.cells k g))
+          (λ (e : q < r). f.elsewhere (q * w + k) (outside-row w q r k (omega arith) g) ∙ s.cells q k e g)
           (eq-or-lt_of_le (omega arith));
-      elsewhere = λ i h.
-          f.elsewhere i (⊎_elim (λ q. inl (omega (arith, mul-le-mul_right w low))) (λ q. inr (omega (arith, next))) h)
-          ∙ s.elsewhere i (⊎_elim (λ q. inl q) (λ q. inr (omega (arith, next))) h);
+      elsewhere = λ i h. f.elsewhere i (inr (omega (arith, next))) ∙ s.elsewhere i (omega (arith, next));
     }
   where
     next : (r + 1) * w ≡ r * w + w
     next = rw add-one (suc-mul r w)
 
-    ahead : (k : ℕ) → k < w → rows_of w m r k ≡ rows_of w l r k
-    ahead k j = s.elsewhere (r * w + k) (inr (omega arith))
-
-    top : (k : ℕ) → k < w → rows_of w m c k ≡ rows_of w l c k
-    top k j =
-        s.elsewhere (c * w + k)
-        (⊎_elim (λ q. inl (omega (arith, row_in c lo w q))) (λ q. inr (omega (arith, row_in r c w q))) apart)
+-- row r of n rows that is cleared by a row, a part of its own
+pub row-cleared : (w c r : ℕ) {A : ℕ → ℕ → Float} (top : ℕ → Float) {l m : List Float} (part : List Float) → c < w → r * w + w ≤ length m
+    → Becomes r w A l m → length part ≡ w
+    → ((k : ℕ) → k < length (between (r * w) (r * w + w) m)
+    → float_at part k ≡ cleared rounded (float_at (between (r * w) (r * w + w) m) c) (float_at (between (r * w) (r * w + w) m)) top k)
+    → Filled (r * w) w (cleared rounded (rows_of w l r c) (rows_of w l r) top) m (put_mid (r * w) w m part)
+unfolding cleared
+row-cleared w c r {A} top {l} {m} part hc within s e f =
+    filled-part (r * w) w m part within e
+    (λ k h. f k (rw (length-between m (r * w) (r * w + w) within) (omega arith)) ∙ rw (own c hc, own k h))
+  where
+    own : (k : ℕ) → k < w → float_at (between (r * w) (r * w + w) m) k ≡ rows_of w l r k
+    own k h = part-at (r * w) w k m h ∙ s.elsewhere (r * w + k) (omega arith)
 
 -- ---- two rows that change places
 
@@ -77,62 +79,90 @@ swap-cells w c p l m s r k h = go (eqb r c) refl (eqb r p) refl
     go false e true g = rw (eqb-true r p g) (s.second k h)
     go false e false g = s.elsewhere (r * w + k) (outside-row w r c k (eqb-false r c e) h) (outside-row w r p k (eqb-false r p g) h)
 
--- ---- the whole column: rows c and p change places, row c is divided, the rows above and below it are cleared
+-- ---- the whole column: rows c and p change places, row c is divided, and the rows above it and below it, parts of their own, are cleared by it
 
-module _
-    (n w c p : ℕ)
-    (hc : c < n)
-    (hp : p < n)
-    (narrow : n ≤ w)
-    {l m d e f : List Float}
+-- a list in three parts
+module _ (a t : ℕ) (x y z : List Float) (lx : length x ≡ a) (ly : length y ≡ t) where
+  in-first : (i : ℕ) → i < a → float_at (x ++ (y ++ z)) i ≡ float_at x i
+  in-first i h = get_or-append x (y ++ z) nan i (omega arith)
+
+  in-second : (i : ℕ) → i < t → float_at (x ++ (y ++ z)) (a + i) ≡ float_at y i
+  in-second i h = search (rules, places)
+
+  in-third : (i : ℕ) → float_at (x ++ (y ++ z)) (a + t + i) ≡ float_at z i
+  in-third i = search (rules, places)
+
+module _ (n w c p : ℕ) (hc : c < n) (hp : p < n) (narrow : n ≤ w) (row row' : List Float) {l m above below above' below' : List Float}
     (s : Swapped (c * w) (p * w) w l m)
-    (t : Filled (c * w) w (λ k. div binary64 (from (c * w) m k) (rows_of w m c c)) m d)
-    (u : ClearedRows w c 0 c d e)
-    (v : ClearedRows w c (c + 1) n e f) where
+    (parts : m ≡ above ++ (row ++ below))
+    (long : length above ≡ c * w)
+    (wide : length row ≡ w)
+    (long' : length above' ≡ c * w)
+    (wide' : length row' ≡ w)
+    (t : (k : ℕ) → k < length row → float_at row' k ≡ div binary64 (float_at row k) (float_at row c))
+    (u : Becomes c w (λ r. cleared rounded (rows_of w above r c) (rows_of w above r) (float_at row')) above above')
+    (v : Becomes (n - (c + 1)) w (λ r. cleared rounded (rows_of w below r c) (rows_of w below r) (float_at row')) below below') where
   S : ℕ → ℕ → Float
   S = swapped rounded (rows_of w l) c p
 
-  own : (k : ℕ) → k < w → rows_of w d c k ≡ normalized rounded S c k
+  -- the cells before the clearing
+  first : (r k : ℕ) → r < c → k < w → rows_of w above r k ≡ S r k
   unfolding S
-  own k h = t.cells k h ∙ rw (swap-cells w c p l m s c k h, swap-cells w c p l m s c c (omega arith))
+  first r k h g =
+      let e : r * w + k < c * w = omega (arith, row_in r c w h) in
+      sym (in-first (c * w) w above row below long wide (r * w + k) e) ∙ rw (← parts) (swap-cells w c p l m s r k g)
 
-  other : (r k : ℕ) → r ≢ c → k < w → rows_of w d r k ≡ S r k
+  second : (k : ℕ) → k < w → float_at row k ≡ S c k
   unfolding S
-  other r k h g = t.elsewhere (r * w + k) (outside-row w r c k h g) ∙ swap-cells w c p l m s r k g
+  second k g = sym (in-second (c * w) w above row below long wide k g) ∙ rw (← parts) (swap-cells w c p l m s c k g)
 
-  -- a row cleared by the divided row
-  row : (r k : ℕ) → r ≢ c → k < w → cleared_row w c r d k ≡ cleared rounded (S r c) (S r) (normalized rounded S c) k
-  unfolding cleared
-  row r k h g = rw (other r c h (omega arith), other r k h g, own k g)
+  place : (r k : ℕ) → (c + 1 + r) * w + k ≡ c * w + w + (r * w + k)
+  place r k = omega arith
 
-  -- from row c on the first clearing wrote nothing
-  ahead : (r k : ℕ) → c ≤ r → rows_of w e r k ≡ rows_of w d r k
-  ahead r k h = u.elsewhere (r * w + k) (inr (omega (arith, mul-le-mul_right w h)))
+  third : (r k : ℕ) → k < w → rows_of w below r k ≡ S (c + 1 + r) k
+  unfolding S
+  third r k g =
+      sym (in-third (c * w) w above row below long wide (r * w + k))
+      ∙ rw (← parts, ← place r k) (swap-cells w c p l m s (c + 1 + r) k g)
 
-  -- up to row c the second wrote nothing
-  behind : (r k : ℕ) → r ≤ c → k < w → rows_of w f r k ≡ rows_of w e r k
-  behind r k h g = v.elsewhere (r * w + k) (inl (omega (arith, row_in r (c + 1) w (omega arith))))
+  -- the divided row
+  own : (k : ℕ) → k < w → float_at row' k ≡ normalized rounded S c k
+  own k h = t k (omega arith) ∙ rw (second k h, second c (omega arith))
 
-  pub column-becomes : Becomes n w (reduced rounded (swapped rounded (rows_of w l) c p) c) l f
+  pub column-becomes : Becomes n w (reduced rounded (swapped rounded (rows_of w l) c p) c) l (above' ++ (row' ++ below'))
   unfolding cleared S
   column-becomes =
       record {
         cells = λ r k h g. go r k h g (three r c);
         elsewhere = λ i h.
-            v.elsewhere i (inr h)
-            ∙ u.elsewhere i (inr (omega (arith, row_in c n w hc)))
-            ∙ t.elsewhere i (inr (omega (arith, row_in c n w hc)))
-            ∙ s.elsewhere i (inr (omega (arith, row_in c n w hc))) (inr (omega (arith, row_in p n w hp)));
+            let j = i - (c * w + w) in
+            let e : c * w + w + j ≡ i = omega (arith, row_in c n w hc) in
+            rw e at (behind j (omega (arith, rows-below n w c hc)));
       }
     where
-      go : (r k : ℕ) → r < n → k < w → Three r c → rows_of w f r k ≡ reduced rounded S c r k
-      go r k h g (same q) = rw q (behind c k (omega arith) g ∙ ahead c k (omega arith) ∙ own k g ∙ sym (reduced-own rounded S c k))
+      -- what lies behind the n rows
+      behind : (j : ℕ) → (n - (c + 1)) * w ≤ j → float_at (above' ++ (row' ++ below')) (c * w + w + j) ≡ float_at l (c * w + w + j)
+      behind j h =
+          in-third (c * w) w above' row' below' long' wide' j
+          ∙ v.elsewhere j h
+          ∙ sym (in-third (c * w) w above row below long wide j)
+          ∙ rw (← parts)
+          (s.elsewhere (c * w + w + j) (inr (omega arith)) (inr (omega (arith, rows-below n w c hc, row_in p n w hp))))
+
+      -- a row below row c
+      lower : (r k : ℕ) → c + 1 + r < n → k < w → rows_of w (above' ++ (row' ++ below')) (c + 1 + r) k ≡ reduced rounded S c (c + 1 + r) k
+      lower r k h g =
+          ap (float_at (above' ++ (row' ++ below'))) (place r k)
+          ∙ in-third (c * w) w above' row' below' long' wide' (r * w + k)
+          ∙ v.cells r k (omega arith) g
+          ∙ rw (third r c (omega arith), third r k g, own k g) (sym (reduced-other rounded S c (c + 1 + r) k (omega arith)))
+
+      go : (r k : ℕ) → r < n → k < w → Three r c → rows_of w (above' ++ (row' ++ below')) r k ≡ reduced rounded S c r k
+      go r k h g (same q) = rw q (in-second (c * w) w above' row' below' long' wide' k g ∙ own k g ∙ sym (reduced-own rounded S c k))
       go r k h g (less q) =
-          behind r k (omega arith) g
-          ∙ u.cells r k (omega arith) q g
-          ∙ row r k (omega arith) g
-          ∙ sym (reduced-other rounded S c r k (omega arith))
+          in-first (c * w) w above' row' below' long' wide' (r * w + k) (omega (arith, row_in r c w q))
+          ∙ u.cells r k q g
+          ∙ rw (first r c q (omega arith), first r k q g, own k g) (sym (reduced-other rounded S c r k (omega arith)))
       go r k h g (more q) =
-          v.cells r k (omega arith) h g
-          ∙ rw (ahead r c (omega arith), ahead r k (omega arith), ahead c k (omega arith)) (row r k (omega arith) g)
-          ∙ sym (reduced-other rounded S c r k (omega arith))
+          let e : c + 1 + (r - (c + 1)) ≡ r = omega arith in
+          rw e at (lower (r - (c + 1)) k (omega arith) g)

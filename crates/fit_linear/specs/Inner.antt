@@ -1,11 +1,9 @@
 -- For the contracts and proofs of inner functions alone: rows and parts of one flat list of floats, what elimination leaves there, and what its loops leave.
-use Rattle.std.specs.Prelude.{ℕ, ◌+◌, ◌*◌, ◌<◌, ◌≤◌, ◌≡◌, List, ◌⊎◌, get_or, Float}
+use Rattle.std.specs.Prelude.{ℕ, ◌+◌, ◌*◌, ◌<◌, ◌≤◌, ◌≡◌, List, ◌⊎◌, get_or, Float, ⊤, Result, Ok, Err}
 use Rattle.std.specs.Float.{nan}
 use Rattle.basics.specs.Lists.{cell_index}
-use Rattle.fit_linear.specs.Elimination.{Elimination, solved, singular, matrix_of, cleared}
-use Rattle.fit_linear.specs.declared.Solve.{Solve}
-use Rattle.fit_linear.specs.declared.Solve.TheVariants.{Solved, Singular}
-use Rattle.fit_linear.specs.Arithmetic.{rounded}
+use Rattle.fit_linear.specs.Elimination.{Elimination, solved, singular, matrix_of}
+use Rattle.fit_linear.specs.declared.Singular.{Singular}
 
 -- the float at a place
 abbrev pub float_at : List Float → ℕ → Float
@@ -30,12 +28,12 @@ pub record Becomes (n w : ℕ) (A : ℕ → ℕ → Float) (before after : List 
 
 -- ---- elimination
 
-abbrev pub solve_of : Elimination Float → Solve
-solve_of (solved A) = Solved
-solve_of (singular A) = Singular
+abbrev pub solve_of : Elimination Float → Result ⊤ Singular
+solve_of (solved A) = Ok tt
+solve_of (singular A) = Err (record {})
 
 -- the answer, and its matrix in the n rows of w
-pub record Eliminated (n w : ℕ) (a : Elimination Float) (before : List Float) (answer : Solve) (after : List Float) : Type 0 where
+pub record Eliminated (n w : ℕ) (a : Elimination Float) (before : List Float) (answer : Result ⊤ Singular) (after : List Float) : Type 0 where
   pub answers : answer ≡ solve_of a
   pub becomes : Becomes n w (matrix_of a) before after
 
@@ -49,8 +47,3 @@ pub record Swapped (a b n : ℕ) (before after : List Float) : Type 0 where
   pub first : (k : ℕ) → k < n → from a after k ≡ from b before k
   pub second : (k : ℕ) → k < n → from b after k ≡ from a before k
   pub elsewhere : (i : ℕ) → Outside a n i → Outside b n i → float_at after i ≡ float_at before i
-
--- rows lo to hi have column c cleared by row c; every other place is as it was
-pub record ClearedRows (w c lo hi : ℕ) (before after : List Float) : Type 0 where
-  pub cells : (r k : ℕ) → lo ≤ r → r < hi → k < w → rows_of w after r k ≡ cleared rounded (rows_of w before r c) (rows_of w before r) (rows_of w before c) k
-  pub elsewhere : (i : ℕ) → (i < lo * w) ⊎ (hi * w ≤ i) → float_at after i ≡ float_at before i

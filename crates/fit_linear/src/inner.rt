@@ -1,13 +1,13 @@
 // Inner functions: for the crates above, not for users. Where one has a `requires`, each caller proves it.
 // Each product and each sum is rounded by itself, none fused and none moved.
-ghost use Rattle.std.specs.Prelude.{◌≡◌, ◌⊎◌, ◌≢◌, ◌+◌, ◌-◌, ◌*◌, ◌<◌, ◌≤◌, length};
+ghost use Rattle.std.specs.Prelude.{◌≡◌, ℕ, ◌+◌, ◌-◌, ◌*◌, ◌<◌, ◌≤◌, length};
 ghost use Rattle.std.specs.Float.{binary64};
 ghost use Rattle.std.specs.Float.Ieee.{sub, mul, div};
 ghost use Rattle.fit_linear.specs.Arithmetic.{rounded};
 ghost use Rattle.fit_linear.specs.Elimination.{pivot_row, cleared, column_solved, gauss_jordan};
-ghost use Rattle.fit_linear.specs.Inner.{from, rows_of, Eliminated, Filled, Swapped, ClearedRows};
+ghost use Rattle.fit_linear.specs.Inner.{float_at, rows_of, Becomes, Eliminated, Swapped};
 
-use super::Solve;
+use super::Singular;
 
 // The row of the greatest size in column c, from the diagonal down.
 fn find_pivot(rows: &[f64], n: usize, w: usize, c: usize) -> usize
@@ -16,14 +16,12 @@ fn find_pivot(rows: &[f64], n: usize, w: usize, c: usize) -> usize
 {
     let mut best = c;
     let mut most = floats::abs(rows[c * w + c]);
-    let mut r = c + 1;
-    while r < n {
+    for r in c + 1..n {
         let size = floats::abs(rows[r * w + c]);
         if floats::as_great(most, size) {
             best = r;
             most = size;
         }
-        r += 1;
     }
     best
 }
@@ -38,93 +36,80 @@ fn swap_rows(rows: &mut [f64], w: usize, c: usize, p: usize)
     }
     let a = c * w;
     let b = p * w;
-    let mut k = 0;
-    while k < w {
-        let x = rows[a + k];
-        rows[a + k] = rows[b + k];
-        rows[b + k] = x;
-        k += 1;
+    for k in 0..w {
+        rows.swap(a + k, b + k);
     }
 }
 
-// Divides w floats from `start` on.
-fn divide_row(rows: &mut [f64], w: usize, start: usize, by: f64)
-    requires { start + w ≤ length rows.old }
-    ensures { Filled start w (λ k. div binary64 (from start rows.old k) by) rows.old rows.new }
+// Divides each float.
+fn divide(row: &mut [f64], by: f64)
+    ensures { (k : ℕ) → k < length row.old → float_at row.new k ≡ div binary64 (float_at row.old k) by }
 {
-    let mut k = 0;
-    while k < w {
-        rows[start + k] = rows[start + k] / by;
-        k += 1;
+    for x in row.iter_mut() {
+        *x /= by;
     }
 }
 
-// A row less `factor` times the row at `top`.
-fn eliminate_row(rows: &mut [f64], w: usize, row: usize, top: usize, factor: f64)
-    requires { (row + w ≤ length rows.old) × (top + w ≤ length rows.old) × ((top + w ≤ row) ⊎ (row + w ≤ top)) }
-    ensures { Filled row w (λ k. sub binary64 (from row rows.old k) (mul binary64 factor (from top rows.old k))) rows.old rows.new }
+// A row less `factor` times the row `top`.
+fn subtract(row: &mut [f64], top: &[f64], factor: f64)
+    requires { length row.old ≤ length top.now }
+    ensures { (k : ℕ) → k < length row.old → float_at row.new k ≡ sub binary64 (float_at row.old k) (mul binary64 factor (float_at top.now k)) }
 {
-    let mut k = 0;
-    while k < w {
-        rows[row + k] = rows[row + k] - factor * rows[top + k];
-        k += 1;
+    for k in 0..row.len() {
+        row[k] -= factor * top[k];
     }
 }
 
-// Clears column c of row r by row c; a zero factor skips the row.
-fn clear_row(rows: &mut [f64], w: usize, c: usize, r: usize)
-    requires { (c < w) × (c * w + w ≤ length rows.old) × (r * w + w ≤ length rows.old) × (c ≢ r) }
-    ensures { Filled (r * w) w (cleared rounded (rows_of w rows.old r c) (rows_of w rows.old r) (rows_of w rows.old c)) rows.old rows.new }
+// Clears column c of a row by the row `top`; a zero factor skips the row.
+fn clear_row(row: &mut [f64], top: &[f64], c: usize)
+    requires { (c < length row.old) × (length row.old ≤ length top.now) }
+    ensures { (k : ℕ) → k < length row.old → float_at row.new k ≡ cleared rounded (float_at row.old c) (float_at row.old) (float_at top.now) k }
 {
-    let row = r * w;
-    let factor = rows[row + c];
+    let factor = row[c];
     if factor == 0.0 {
         return;
     }
-    eliminate_row(rows, w, row, c * w, factor);
+    subtract(row, top, factor);
 }
 
-// Clears column c of rows lo to hi, which lie all below or all above row c: the compiler needs it to see that the two rows are apart.
-fn clear_rows(rows: &mut [f64], w: usize, c: usize, lo: usize, hi: usize)
-    requires { (c < w) × (lo ≤ hi) × (c * w + w ≤ length rows.old) × (hi * w ≤ length rows.old) × ((c < lo) ⊎ (hi ≤ c)) }
-    ensures { ClearedRows w c lo hi rows.old rows.new }
+// Clears column c of n rows by the row `top`.
+fn clear_rows(rows: &mut [f64], n: usize, top: &[f64], c: usize)
+    requires { (c < length top.now) × (n * length top.now ≤ length rows.old) }
+    ensures { let w = length top.now in
+        Becomes n w (λ r. cleared rounded (rows_of w rows.old r c) (rows_of w rows.old r) (float_at top.now)) rows.old rows.new }
 {
-    let mut r = lo;
-    while r < hi {
-        clear_row(rows, w, c, r);
-        r += 1;
+    let w = top.len();
+    for r in 0..n {
+        clear_row(&mut rows[r * w..r * w + w], top, c);
     }
 }
 
 // Solves column c.
-fn reduce_column(rows: &mut [f64], n: usize, w: usize, c: usize) -> Solve
+fn reduce_column(rows: &mut [f64], n: usize, w: usize, c: usize) -> Result<(), Singular>
     requires { (c < n) × (n ≤ w) × (n * w ≤ length rows.old) }
     ensures { Eliminated n w (column_solved rounded n (rows_of w rows.old) c) rows.old result rows.new }
 {
     let best = find_pivot(rows, n, w, c);
     if floats::abs(rows[best * w + c]) < 1e-12 {
-        return Solve::Singular;
+        return Err(Singular);
     }
     swap_rows(rows, w, c, best);
-    let start = c * w;
-    let pivot = rows[start + c];
-    divide_row(rows, w, start, pivot);
-    clear_rows(rows, w, c, 0, c);
-    clear_rows(rows, w, c, c + 1, n);
-    Solve::Solved
+    let (above, rest) = rows.split_at_mut(c * w);
+    let (top, below) = rest.split_at_mut(w);
+    let pivot = top[c];
+    divide(top, pivot);
+    clear_rows(above, c, top, c);
+    clear_rows(below, n - (c + 1), top, c);
+    Ok(())
 }
 
 // Reduces the first n columns of n rows of w floats to the identity, in place.
-pub fn gauss_jordan(rows: &mut [f64], n: usize, w: usize) -> Solve
+pub fn gauss_jordan(rows: &mut [f64], n: usize, w: usize) -> Result<(), Singular>
     requires { (n ≤ w) × (n * w ≤ length rows.old) }
     ensures { Eliminated n w (gauss_jordan rounded n (rows_of w rows.old)) rows.old result rows.new }
 {
-    let mut c = 0;
-    while c < n {
-        let Solve::Solved = reduce_column(rows, n, w, c) else {
-            return Solve::Singular;
-        };
-        c += 1;
+    for c in 0..n {
+        reduce_column(rows, n, w, c)?;
     }
-    Solve::Solved
+    Ok(())
 }

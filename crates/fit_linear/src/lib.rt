@@ -3,10 +3,6 @@
 
 pub mod inner;
 
-// What `gauss_jordan` finds.
-#[derive(Clone, Copy)]
-pub enum Solve {
-    Solved,
-    // A pivot's size is below 1e-12.
-    Singular,
-}
+// A column has no pivot: the greatest size in it is below 1e-12.
+#[derive(Clone, Copy, Debug, PartialEq, Eq)]
+pub struct Singular;

@@ -10,7 +10,7 @@ use native.Mathlib.Omega.{arith}
 use lib.ListN.{length, get_or}
 use Rattle.basics.specs.Lists.{bit, count, any, tab, sum}
 use Rattle.basics.proofs.Tests.{either, fails}
-use Rattle.basics.proofs.Lists.{tab-ext, tab-get_d}
+use Rattle.basics.proofs.Lists.{tab-ext, tab-get_or}
 use Rattle.fit_marking.specs.Below.{sum_to, some_to}
 use Rattle.fit_marking.specs.Inner.{count_to}
 
@@ -52,7 +52,7 @@ sum_same n f g e = ap sum (tab-ext n f g e)
 
 sum-all : (l : List ℕ) → sum_to (length l) (λ k. get_or l k 0) ≡ sum l
 unfolding sum_to
-sum-all l = ap sum (tab-get_d l (length l) 0 refl)
+sum-all l = ap sum (tab-get_or l (length l) 0 refl)
 
 -- n places of a list from a on
 pub part-below : (l : List ℕ) (a n : ℕ) → a + n ≤ length l → sum_to n (λ k. get_or l (a + k) 0) ≤ sum l
@@ -96,26 +96,6 @@ some-found (suc n) p h =
 
 pub some-not : (n : ℕ) (p : ℕ → Bool) → some_to n p ≡ false → (k : ℕ) → k < n → p k ≡ false
 some-not n p h k l = fails (p k) (λ t. false≢true (sym h ∙ some_at n p k l t))
-
--- ---- a loop that looks for a number below n and stops at the first one
-
--- none of the first k passes the test
-pub record Searching (n : ℕ) (p : ℕ → Bool) (k : ℕ) : Type 0 where
-  pub most : k ≤ n
-  pub none_yet : some_to k p ≡ false
-
-pub searching-none : {n : ℕ} {p : ℕ → Bool} → Searching n p 0
-searching-none {n} {p} = record { most = omega arith; none_yet = some-none p }
-
-module _ {n : ℕ} {p : ℕ → Bool} {k : ℕ} (s : Searching n p k) where
-  pub searching-more : k < n → p k ≡ false → Searching n p (k + 1)
-  searching-more h e = record { most = omega arith; none_yet = some_more k p s.none_yet e }
-
-  pub searching-found : k < n → p k ≡ true → true ≡ some_to n p
-  searching-found h e = sym (some_at n p k h e)
-
-  pub searching-all : n ≤ k → false ≡ some_to n p
-  searching-all h = let all : k ≡ n = omega (arith, s.most) in sym (rw all at s.none_yet)
 
 -- ---- counts
 

@@ -8,14 +8,12 @@ use Prim.Native.Nat.{ℕ, zero, suc, ◌<◌}
 use native.Mathlib.Omega.{arith}
 use borrow.Author.Tests.{not-true, ltb-true, lt-ltb, leb-true, leb-false, le-leb, lt-leb}
 use lib.Dec.{ltb}
-use lib.ListN.{get_or}
 use Rattle.basics.proofs.Tests.{both, either, yes_or_no, fails}
-use Rattle.model.specs.Status.{status_number}
 use Rattle.model.specs.declared.StateStatus.{StateStatus}
 use Rattle.model.specs.declared.StateStatus.TheVariants as Status
 use Rattle.fit_marking.specs.Below.{some_to}
 use Rattle.fit_marking.specs.Inner.{count_to}
-use Rattle.fit_marking.specs.Marks.{Cells, observations, Rare, NotRare, Reaches, here, via, Says, Marked, not_rare, reaches_in, mark_of}
+use Rattle.fit_marking.specs.Marks.{Cells, observations, Rare, NotRare, Reaches, here, via, Says, Marked, not_rare, reaches_in, mark_of, mark_at}
 use Rattle.fit_marking.proofs.Below.{some_at, some-found, some-not, count_less, count_most}
 
 module _ (C : Cells) where
@@ -159,5 +157,5 @@ module _ (C : Cells) where
   mark-only i l Status.OutsideQuotes s = absurd s
 
   -- what marking leaves, by the function
-  pub marked-is : (before after : List ℕ) → Marked C before after → (i : ℕ) → i < C.states → get_or after i 0 ≡ status_number (mark_of C i)
-  marked-is before after M i l = let w = M.marks i l in rw (mark-only i l w.0 w.1) w.2
+  pub marked-is : (before after : List StateStatus) → Marked C before after → (i : ℕ) → i < C.states → mark_at after i ≡ mark_of C i
+  marked-is before after M i l = sym (mark-only i l (mark_at after i) (M.marks i l))

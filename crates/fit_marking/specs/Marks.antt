@@ -1,8 +1,6 @@
 -- Which states the fit uses: document 01, "The fit". Generic in the number of states.
-use Rattle.std.specs.Prelude.{ℕ, zero, suc, ◌+◌, ◌*◌, ◌<◌, ◌≤◌, ◌≡◌, Bool, ◌&&◌, ◌||◌, cond, List, ltb, leb, length, get_or}
-use Rattle.basics.specs.Lists.{sum, cell_at}
-use Rattle.basics.specs.Domain.{counter_limit}
-use Rattle.model.specs.Status.{status_number}
+use Rattle.std.specs.Prelude.{ℕ, zero, suc, ◌+◌, ◌<◌, ◌≤◌, ◌≡◌, Bool, ◌&&◌, ◌||◌, cond, List, ltb, leb, get_or}
+use Rattle.basics.specs.Lists.{cell_at}
 use Rattle.model.specs.declared.StateStatus.{StateStatus}
 use Rattle.model.specs.declared.StateStatus.TheVariants as Status
 use Rattle.fit_marking.specs.Below.{sum_to, some_to}
@@ -16,12 +14,6 @@ pub record Cells : Type 0 where
 
 abbrev pub cells_of : ℕ → ℕ → List ℕ → List ℕ → Cells
 cells_of N least stay moved = record { states = N; least = least; stay = cell_at N stay; moved = cell_at N moved }
-
--- two tables of N × N cells, all cells together at most twice the limit of pairs
-pub record Fitting (N : ℕ) (stay moved : List ℕ) : Type 0 where
-  pub stay-cells : length stay ≡ N * N
-  pub moved-cells : length moved ≡ N * N
-  pub cells-sum : sum stay + sum moved ≤ 2 * counter_limit
 
 -- a row's stay plus moved
 unfoldable pub observations : Cells → ℕ → ℕ
@@ -45,10 +37,14 @@ Says C i Status.Rare = Rare C i
 Says C i Status.NoPriceMove = NotRare C i × (Reaches C i → ⊥)
 Says C i Status.OutsideQuotes = ⊥
 
--- each state's place holds the number of its mark; every other place is as it was
-pub record Marked (C : Cells) (before after : List ℕ) : Type 0 where
-  pub marks : (i : ℕ) → i < C.states → (m : StateStatus) × Says C i m × (get_or after i 0 ≡ status_number m)
-  pub elsewhere : (i : ℕ) → C.states ≤ i → get_or after i 0 ≡ get_or before i 0
+-- the mark in place i
+abbrev pub mark_at : List StateStatus → ℕ → StateStatus
+mark_at marks i = get_or marks i Status.Calibrated
+
+-- each state's place holds its mark; every other place is as it was
+pub record Marked (C : Cells) (before after : List StateStatus) : Type 0 where
+  pub marks : (i : ℕ) → i < C.states → Says C i (mark_at after i)
+  pub elsewhere : (i : ℕ) → C.states ≤ i → mark_at after i ≡ mark_at before i
 
 -- ---- the mark as a function; proofs/Decided.antt proves that it says what is so
 

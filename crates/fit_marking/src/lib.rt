@@ -1,35 +1,30 @@
 // Which states the fit uses (document 01, "The fit"). Inner functions: for the crates above, not for users. Where one has a `requires`, each caller proves it.
-// Marks are numbers of `StateStatus`: 0 Calibrated, 1 Rare, 2 NoPriceMove. While paths are looked for, 2 is the mark of a state from which none is found yet.
+// While paths are looked for, `NoPriceMove` is the mark of a state from which none is found yet.
 #![tactic(auto)]
 
 ghost use Rattle.std.specs.Prelude.{◌≡◌, true, false, ◌+◌, ◌*◌, ◌<◌, ◌≤◌, length};
 ghost use Rattle.fit_marking.specs.Below.{sum_to};
 ghost use Rattle.basics.specs.Lists.{cell_at};
 ghost use Rattle.basics.specs.Domain.{counter_limit};
-ghost use Rattle.fit_marking.specs.Marks.{cells_of, Fitting, observations, Marked};
-ghost use Rattle.fit_marking.specs.Inner.{has_positive, leads_out, first_mark, FirstMarks, Freed, Left, Turned};
+ghost use Rattle.fit_marking.specs.Marks.{observations, Marked};
+ghost use Rattle.fit_marking.specs.Inner.{Fitting, row_of, has_positive, leads_out, first_mark, FirstMarks, Freed, Left, Turned};
+
+use model::StateStatus;
+
+// Row x of a table of n columns.
+pub fn row(table: &[u64], n: usize, x: usize) -> &[u64]
+    requires { x * n + n ≤ length table.now }
+    ensures { result.now ≡ row_of n table.now x }
+{
+    &table[x * n..x * n + n]
+}
 
 // The sum of row x of a table of n columns.
 fn row_sum(table: &[u64], n: usize, x: usize) -> u64
     requires { (x * n + n ≤ length table.now) × (sum_to n (cell_at n table.now x) ≤ 2 * counter_limit) }
     ensures { result ≡ sum_to n (cell_at n table.now x) }
 {
-    let start = x * n;
-    let mut sum: u64 = 0;
-    let mut j: usize = 0;
-    while j < n {
-        sum += table[start + j];
-        j += 1;
-    }
-    sum
-}
-
-// The observations of state x, which do not depend on the least.
-pub fn observations_of(stay: &[u64], moved: &[u64], n: usize, x: usize) -> u64
-    requires { Fitting n stay.now moved.now × (x < n) }
-    ensures { result ≡ observations (cells_of n 0 stay.now moved.now) x }
-{
-    row_sum(stay, n, x) + row_sum(moved, n, x)
+    row(table, n, x).iter().sum()
 }
 
 // Whether a cell of row x is positive.
@@ -37,95 +32,98 @@ fn has_positive(table: &[u64], n: usize, x: usize) -> bool
     requires { x * n + n ≤ length table.now }
     ensures { result ≡ has_positive n table.now x }
 {
-    let start = x * n;
-    let mut j: usize = 0;
-    while j < n {
-        if 0 < table[start + j] {
-            return true;
+    row(table, n, x).iter().any(|cell| 0 < *cell)
+}
+
+// Two tables of a cell for each two states: how many pairs of quotes lead from the one to the other, with the mid as it was, and with the mid moved.
+#[derive(Clone, Copy)]
+pub struct PairTables<'a> {
+    pub states: usize,
+    pub stay: &'a [u64],
+    pub moved: &'a [u64],
+    pub ghost fitting: { Fitting states stay.now moved.now },
+}
+
+impl PairTables<'_> {
+    ghost use Rattle.fit_marking.specs.Tables.{cells_in};
+
+    // The observations of state x, which do not depend on the least.
+    pub fn observations_of(&self, x: usize) -> u64
+        requires { x < self.now.states }
+        ensures { result ≡ observations (cells_in self.now 0) x }
+    {
+        row_sum(self.stay, self.states, x) + row_sum(self.moved, self.states, x)
+    }
+
+    // Whether a positive stay cell leads from x to a Calibrated state.
+    fn leads_out(&self, marks: &[StateStatus], x: usize) -> bool
+        requires { (x < self.now.states) × (self.now.states ≤ length marks.now) }
+        ensures { result ≡ leads_out self.now.states self.now.stay.now marks.now x }
+    {
+        let cells = row(self.stay, self.states, x);
+        cells.iter().zip(marks).any(|(cell, mark)| 0 < *cell && *mark == StateStatus::Calibrated)
+    }
+
+    // The mark of x by its own rows.
+    fn first_mark(&self, least: u64, x: usize) -> StateStatus
+        requires { x < self.now.states }
+        ensures { result ≡ first_mark self.now.states least self.now.stay.now self.now.moved.now x }
+    {
+        if self.observations_of(x) < least {
+            return StateStatus::Rare;
         }
-        j += 1;
-    }
-    false
-}
-
-// Whether a positive stay cell leads from x to a state with mark 0.
-fn leads_out(stay: &[u64], marks: &[u64], n: usize, x: usize) -> bool
-    requires { (x * n + n ≤ length stay.now) × (n ≤ length marks.now) }
-    ensures { result ≡ leads_out n stay.now marks.now x }
-{
-    let start = x * n;
-    let mut j: usize = 0;
-    while j < n {
-        if (0 < stay[start + j]) & (marks[j] == 0) {
-            return true;
+        if has_positive(self.moved, self.states, x) {
+            return StateStatus::Calibrated;
         }
-        j += 1;
+        StateStatus::NoPriceMove
     }
-    false
-}
 
-// The mark of x by its own rows.
-fn first_mark(stay: &[u64], moved: &[u64], n: usize, least: u64, x: usize) -> u64
-    requires { Fitting n stay.now moved.now × (x < n) }
-    ensures { result ≡ first_mark n least stay.now moved.now x }
-{
-    if observations_of(stay, moved, n, x) < least {
-        return 1;
-    }
-    if has_positive(moved, n, x) {
-        return 0;
-    }
-    2
-}
-
-fn first_marks(stay: &[u64], moved: &[u64], n: usize, least: u64, marks: &mut [u64])
-    requires { Fitting n stay.now moved.now × (n ≤ length marks.old) }
-    ensures { FirstMarks n least stay.now moved.now marks.old marks.new }
-{
-    let mut x: usize = 0;
-    while x < n {
-        let m = first_mark(stay, moved, n, least, x);
-        marks[x] = m;
-        x += 1;
-    }
-}
-
-// Frees x if its mark is 2 and it leads out, and says whether it did.
-fn look_at(stay: &[u64], n: usize, marks: &mut [u64], x: usize) -> bool
-    requires { (x < n) × (n * n ≤ length stay.now) × (n ≤ length marks.old) }
-    ensures { (result ≡ true → Freed n stay.now marks.old marks.new x) × (result ≡ false → Left n stay.now marks.old marks.new x) }
-{
-    if marks[x] != 2 {
-        return false;
-    }
-    if !leads_out(stay, marks, n, x) {
-        return false;
-    }
-    marks[x] = 0;
-    true
-}
-
-// One turn through the states, which says whether it freed any.
-fn turn(stay: &[u64], n: usize, marks: &mut [u64]) -> bool
-    requires { (n * n ≤ length stay.now) × (n ≤ length marks.old) }
-    ensures { Turned n stay.now marks.old marks.new result }
-{
-    let mut freed = false;
-    let mut x: usize = 0;
-    while x < n {
-        if look_at(stay, n, marks, x) {
-            freed = true;
+    fn first_marks(&self, least: u64, marks: &mut [StateStatus])
+        requires { self.now.states ≤ length marks.old }
+        ensures { FirstMarks self.now.states least self.now.stay.now self.now.moved.now marks.old marks.new }
+    {
+        for x in 0..self.states {
+            marks[x] = self.first_mark(least, x);
         }
-        x += 1;
     }
-    freed
-}
 
-// Marks n states; marks after theirs are unchanged.
-pub fn mark_no_price_move(stay: &[u64], moved: &[u64], n: usize, least: u64, marks: &mut [u64])
-    requires { Fitting n stay.now moved.now × (n ≤ length marks.old) }
-    ensures { Marked (cells_of n least stay.now moved.now) marks.old marks.new }
-{
-    first_marks(stay, moved, n, least, marks);
-    while turn(stay, n, marks) {}
+    // Frees x if no path is found from it yet and it leads out, and says whether it did.
+    fn look_at(&self, marks: &mut [StateStatus], x: usize) -> bool
+        requires { (x < self.now.states) × (self.now.states ≤ length marks.old) }
+        ensures { (result ≡ true → Freed self.now.states self.now.stay.now marks.old marks.new x)
+            × (result ≡ false → Left self.now.states self.now.stay.now marks.old marks.new x) }
+    {
+        if marks[x] != StateStatus::NoPriceMove {
+            return false;
+        }
+        if !self.leads_out(marks, x) {
+            return false;
+        }
+        marks[x] = StateStatus::Calibrated;
+        true
+    }
+
+    // One turn through the states, which says whether it freed any.
+    fn turn(&self, marks: &mut [StateStatus]) -> bool
+        requires { self.now.states ≤ length marks.old }
+        ensures { Turned self.now.states self.now.stay.now marks.old marks.new result }
+    {
+        let mut freed = false;
+        for x in 0..self.states {
+            if self.look_at(marks, x) {
+                freed = true;
+            }
+        }
+        freed
+    }
+
+    // Marks the states; marks after theirs are unchanged.
+    pub fn mark_no_price_move(&self, least: u64, marks: &mut [StateStatus])
+        requires { self.now.states ≤ length marks.old }
+        ensures { Marked (cells_in self.now least) marks.old marks.new }
+    {
+        self.first_marks(least, marks);
+        // A fixed point has no index: `for` says less.
+        while self.turn(marks) {}
+    }
 }

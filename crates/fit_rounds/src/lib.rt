@@ -28,8 +28,7 @@ impl Rounds {
     pub fn are_wrong(self) -> bool
         ensures { result ≡ wrong_rounds self.series self.fallback }
     {
-        (self.series < 1)
-            | (Rounds::SERIES_ROUNDS_LIMIT < self.series)
-            | (Rounds::FALLBACK_ROUNDS_LIMIT < self.fallback)
+        !(1..=Rounds::SERIES_ROUNDS_LIMIT).contains(&self.series)
+            || Rounds::FALLBACK_ROUNDS_LIMIT < self.fallback
     }
 }

@@ -9,15 +9,18 @@ use native.Mathlib.Omega.{arith}
 use borrow.Author.Tests.{eq-eqb, ne_eqb}
 use lib.Dec.{eqb}
 use lib.ListN.{length}
+use Rattle.std.specs.Prelude.{⊤, Result, Ok, Err}
 use lib.Ieee.{Float, binary64, add, lt}
+use Rattle.std.specs.List.{between}
+use Rattle.std.proofs.lemmas.List.Edits.{length-between}
+use Rattle.fit_linear.proofs.Parts.{part-at}
 use Rattle.basics.proofs.Tests.{row_in}
 use Rattle.floats.specs.Floats.{tiny, clamp, is_infinite}
 use Rattle.fit_linear.specs.Arithmetic.{rounded}
 use Rattle.fit_series.specs.Series.{Series, converged, not_converged, series_sum, series_term, times, plus, largest, summed, sum_series, share_after, fallback_within}
 use Rattle.fit_linear.specs.Inner.{float_at, from, rows_of, Outside, Filled}
 use Rattle.fit_series.specs.Inner.{width, sum_at, share_at, term_at, next_at, solved_g1, solved_f, solved_b, sum_answer, Summed, last_product, Shared, ProductTo, Column, TermAdded}
-use Rattle.fit_series.specs.declared.Sum.{Sum}
-use Rattle.fit_series.specs.declared.Sum.TheVariants.{Converged, NotConverged}
+use Rattle.fit_series.specs.declared.NotConverged.{NotConverged}
 use Rattle.fit_series.proofs.Vectors.{SameVector, SameSeries, dot-same, largest-same, series-same, share-same}
 
 -- ---- what can be read while a part is written
@@ -38,6 +41,13 @@ part-read h r = record { enough = omega arith; inside = λ k q. omega arith; unw
 one-wide : (l : List Float) (k a : ℕ) → rows_of 1 l k a ≡ from a l k
 one-wide l k a = let e : k * 1 + a ≡ a + k = omega arith in ap (float_at l) e
 
+-- the largest size of a part
+pub largest-part : (base n : ℕ) (l : List Float) → base + n ≤ length l
+    → largest rounded (length (between base (base + n) l)) (float_at (between base (base + n) l)) ≡ largest rounded n (from base l)
+largest-part base n l h =
+    let e : length (between base (base + n) l) ≡ n = length-between l base (base + n) h ∙ omega arith in
+    rw e (largest-same rounded n _ _ (λ k g. part-at base n k l g))
+
 -- the rows hold the same B
 same-B : (n : ℕ) (l m : List Float) → ((i : ℕ) → i < sum_at n → float_at m i ≡ float_at l i) → (i j : ℕ) → i < n → j < n → solved_b n m i j ≡ solved_b n l i j
 same-B n l m h i j p q = h (i * width n + (n + 2 + j)) (omega (arith, row_in i n (width n) p))
@@ -48,14 +58,14 @@ module _
     {n : ℕ}
     {l m₁ m₂ m₃ : List Float}
     (p : ProductTo n (term_at n) n l m₁)
-    (c : Filled (term_at n) n (λ k. rows_of 1 m₁ k (next_at n)) m₁ m₂)
+    (c : Filled (term_at n) n (from (next_at n) m₁) m₁ m₂)
     (a : Filled (sum_at n) n (λ k. add binary64 (rows_of 1 m₂ k (sum_at n)) (from (next_at n) m₂ k)) m₂ m₃) where
   P : ℕ → Float
   P = times rounded n (solved_b n l) (from (term_at n) l)
 
   term₂ : (k : ℕ) → k < n → from (term_at n) m₂ k ≡ P k
   unfolding P
-  term₂ k h = c.cells k h ∙ one-wide m₁ k (next_at n) ∙ p.cells k h
+  term₂ k h = c.cells k h ∙ p.cells k h
 
   next₂ : (k : ℕ) → k < n → from (next_at n) m₂ k ≡ P k
   unfolding P
@@ -144,7 +154,7 @@ module _ {n rounds left : ℕ} {l m m' : List Float} {x : Float} (more : 0 < lef
   one_more = omega arith
 
   -- the run ends here, with the sum and the term of this round
-  ends : (s : Series Float) (answer : Sum) → summed rounded n B left r.total r.last ≡ s → answer ≡ sum_answer s → series_sum s ≡ total → series_term s ≡ next
+  ends : (s : Series Float) (answer : Result ⊤ NotConverged) → summed rounded n B left r.total r.last ≡ s → answer ≡ sum_answer s → series_sum s ≡ total → series_term s ≡ next
       → Summed n rounds (summed rounded n B rounds (from (sum_at n) l) (from (term_at n) l)) l answer m'
   unfolding B
   ends s answer e is st nt =
@@ -157,14 +167,14 @@ module _ {n rounds left : ℕ} {l m m' : List Float} {x : Float} (more : 0 < lef
         elsewhere = elsewhere';
       })
 
-  pub run-infinite : is_infinite x ≡ true → Summed n rounds (summed rounded n (solved_b n l) rounds (from (sum_at n) l) (from (term_at n) l)) l NotConverged m'
+  pub run-infinite : is_infinite x ≡ true → Summed n rounds (summed rounded n (solved_b n l) rounds (from (sum_at n) l) (from (term_at n) l)) l (Err (record {})) m'
   unfolding summed next total B
-  run-infinite h = ends (not_converged total next) NotConverged (rw (one_more, ← size, h)) refl refl refl
+  run-infinite h = ends (not_converged total next) (Err (record {})) (rw (one_more, ← size, h)) refl refl refl
 
   pub run-tiny : is_infinite x ≡ false → lt x tiny ≡ true
-      → Summed n rounds (summed rounded n (solved_b n l) rounds (from (sum_at n) l) (from (term_at n) l)) l Converged m'
+      → Summed n rounds (summed rounded n (solved_b n l) rounds (from (sum_at n) l) (from (term_at n) l)) l (Ok tt) m'
   unfolding summed next total B
-  run-tiny h g = ends (converged total next) Converged (rw (one_more, ← size, h, g)) refl refl refl
+  run-tiny h g = ends (converged total next) (Ok tt) (rw (one_more, ← size, h, g)) refl refl refl
 
   goes : is_infinite x ≡ false → lt x tiny ≡ false
       → summed rounded n (solved_b n l) left r.total r.last ≡ summed rounded n (solved_b n l) (left - 1) total next
@@ -187,14 +197,14 @@ module _ {n rounds left : ℕ} {l m m' : List Float} {x : Float} (more : 0 < lef
       }
 
 pub run_out : {n rounds : ℕ} {l m : List Float} → Running n rounds 0 l m
-    → Summed n rounds (summed rounded n (solved_b n l) rounds (from (sum_at n) l) (from (term_at n) l)) l NotConverged m
+    → Summed n rounds (summed rounded n (solved_b n l) rounds (from (sum_at n) l) (from (term_at n) l)) l (Err (record {})) m
 unfolding summed
 run_out r = rw r.rest (record { answers = refl; sums = r.sums; terms = r.terms; nexts = r.nexts; elsewhere = r.elsewhere })
 
 -- ---- the series from G1
 
 -- what a run leaves, given by a series that agrees
-module _ {n rounds : ℕ} {l m : List Float} {x : Sum} where
+module _ {n rounds : ℕ} {l m : List Float} {x : Result ⊤ NotConverged} where
   like : (a b : Series Float) → sum_answer a ≡ sum_answer b → SameVector n (series_sum a) (series_sum b) → SameVector n (series_term a) (series_term b)
       → Summed n rounds a l x m
       → Summed n rounds b l x m
@@ -214,13 +224,13 @@ module _ {n rounds : ℕ} {l m : List Float} {x : Sum} where
   summed_same (not_converged s t) (not_converged s' t') h = like _ _ refl h.0 h.1
 
 -- the run of rows that hold B and G1
-pub summed-of : (n rounds : ℕ) (l m : List Float) (x : Sum) (B : ℕ → ℕ → Float) (G1 : ℕ → Float)
+pub summed-of : (n rounds : ℕ) (l m : List Float) (x : Result ⊤ NotConverged) (B : ℕ → ℕ → Float) (G1 : ℕ → Float)
     → ((i j : ℕ) → i < n → j < n → solved_b n l i j ≡ B i j) → SameVector n (solved_g1 n l) G1
     → Summed n rounds (sum_series rounded n (solved_b n l) (solved_g1 n l) rounds) l x m → Summed n rounds (sum_series rounded n B G1 rounds) l x m
 summed-of n rounds l m x B G1 h g = summed_same _ _ (series-same rounded n (solved_b n l) B h rounds _ _ _ _ g g)
 
 -- G1 copied to sum and to term, and the run from there
-pub sum-started : {n rounds : ℕ} {l m₁ m₂ m₃ : List Float} {x : Sum} → Filled (sum_at n) n (λ k. rows_of (width n) l k n) l m₁
+pub sum-started : {n rounds : ℕ} {l m₁ m₂ m₃ : List Float} {x : Result ⊤ NotConverged} → Filled (sum_at n) n (λ k. rows_of (width n) l k n) l m₁
     → Filled (term_at n) n (λ k. rows_of (width n) m₁ k n) m₁ m₂
     → Summed n rounds (summed rounded n (solved_b n m₂) rounds (from (sum_at n) m₂) (from (term_at n) m₂)) m₂ x m₃
     → Summed n rounds (sum_series rounded n (solved_b n l) (solved_g1 n l) rounds) l x m₃

@@ -1,12 +1,10 @@
 -- For the contracts and proofs of inner functions alone: where the rows and vectors of a fit stand in its scratch (document 01, "The fit": N × (2N + 10)
 -- floats), and what the functions leave there.
-use Rattle.std.specs.Prelude.{ℕ, ◌+◌, ◌-◌, ◌*◌, ◌<◌, ◌≤◌, ◌≡◌, cond, List, eqb, length, Float}
+use Rattle.std.specs.Prelude.{ℕ, ◌+◌, ◌-◌, ◌*◌, ◌<◌, ◌≤◌, ◌≡◌, cond, List, eqb, length, Float, ⊤, Result, Ok, Err}
 use Rattle.fit_linear.specs.Arithmetic.{rounded}
 use Rattle.fit_linear.specs.Inner.{float_at, from, rows_of, Outside, Filled}
 use Rattle.fit_series.specs.Series.{Series, converged, not_converged, series_sum, series_term, times, share_after, dot, plus, largest}
-use Rattle.fit_series.specs.declared.Sum.{Sum}
-use Rattle.fit_series.specs.declared.Sum.TheVariants.{Converged, NotConverged}
-use Rattle.fit_series.specs.declared.inner.Four.{Four}
+use Rattle.fit_series.specs.declared.NotConverged.{NotConverged}
 
 -- ---- scratch of n states: n rows of 2 n + 2, then n floats each of sum, share, term and next, and 4 n spare
 
@@ -42,12 +40,12 @@ pub record Scratch (n : ℕ) (l : List Float) : Type 0 where
 
 -- ---- the series
 
-abbrev pub sum_answer : Series Float → Sum
-sum_answer (converged sum term) = Converged
-sum_answer (not_converged sum term) = NotConverged
+abbrev pub sum_answer : Series Float → Result ⊤ NotConverged
+sum_answer (converged sum term) = Ok tt
+sum_answer (not_converged sum term) = Err (record {})
 
 -- the answer; sum, term and next, which is the last term where a round was made; every other place as it was
-pub record Summed (n rounds : ℕ) (s : Series Float) (before : List Float) (answer : Sum) (after : List Float) : Type 0 where
+pub record Summed (n rounds : ℕ) (s : Series Float) (before : List Float) (answer : Result ⊤ NotConverged) (after : List Float) : Type 0 where
   pub answers : answer ≡ sum_answer s
   pub sums : (k : ℕ) → k < n → from (sum_at n) after k ≡ series_sum s k
   pub terms : (k : ℕ) → k < n → from (term_at n) after k ≡ series_term s k
@@ -66,12 +64,10 @@ pub record Shared (n rounds : ℕ) (share product : ℕ → Float) (before after
   pub nexts : (k : ℕ) → k < n → from (next_at n) after k ≡ cond (eqb rounds 0) (from (next_at n) before k) (product k)
   pub elsewhere : (i : ℕ) → Outside (share_at n) n i → Outside (next_at n) n i → float_at after i ≡ float_at before i
 
--- the dot products of four rows, w apart from i on, with the vector from j on
-pub record FourDots (i w j n : ℕ) (l : List Float) (r : Four) : Type 0 where
-  pub first : r.a ≡ dot rounded n (from i l) (from j l)
-  pub second : r.b ≡ dot rounded n (from (i + w) l) (from j l)
-  pub third : r.c ≡ dot rounded n (from (i + 2 * w) l) (from j l)
-  pub fourth : r.d ≡ dot rounded n (from (i + 3 * w) l) (from j l)
+-- the dot products of so many rows, w apart from i on, with the vector from j on
+pub record Dots (rows i w j n : ℕ) (l sums : List Float) : Type 0 where
+  pub as_many : length sums ≡ rows
+  pub each : (r : ℕ) → r < rows → float_at sums r ≡ dot rounded n (from (i + r * w) l) (from j l)
 
 -- the first m numbers of B times the vector from v on stand in next
 abbrev pub ProductTo : ℕ → ℕ → ℕ → List Float → List Float → Type 0

@@ -3,9 +3,6 @@
 
 pub mod inner;
 
-// What `sum_series` finds.
-#[derive(Clone, Copy)]
-pub enum Sum {
-    Converged,
-    NotConverged,
-}
+// The largest size of a term became infinite, or the rounds ran out while it was 1e-12 or more.
+#[derive(Clone, Copy, Debug, PartialEq, Eq)]
+pub struct NotConverged;

@@ -1,7 +1,7 @@
 -- A row of the system as its parts, and the rows one after another.
 use Prim.Native.Nat.{ℕ, ◌+◌, ◌-◌, ◌*◌, ◌<◌, ◌≤◌}
 use mathlib.Core.Path.{◌≡◌, refl, sym, ap, ◌∙◌}
-use mathlib.Core.Bool.{Bool, true, cond}
+use mathlib.Core.Bool.{Bool, true, false, cond}
 use mathlib.Core.List.{List}
 use mathlib.Core.Logic.{◌≢◌, ◌⊎◌, inl, inr, ⊎_elim}
 use native.Mathlib.Nat.{suc-mul, eq-or-lt_of_le}
@@ -10,62 +10,59 @@ use native.Mathlib.Omega.{arith}
 use borrow.Author.Tests.{lt-ltb, le-ltb, eq-eqb, ne_eqb}
 use lib.Dec.{eqb}
 use lib.IntN.{ℤ, pos}
-use lib.ListN.{length, set, length-set}
+use lib.ListN.{length, get_or, set, length-set}
 use lib.Seq.{get_or-set_same, get_or-set_other}
 use lib.Ieee.{Float, nan, binary64, in_float, sub, neg}
 use Rattle.basics.proofs.Tests.{le-or-lt}
+use Rattle.std.specs.Prelude.{Option, IfSome}
 use Rattle.floats.specs.Floats.{pos_zero, one, exact_whole}
-use Rattle.model.specs.Status.{status_number}
+use Rattle.model.specs.Status.{is_calibrated}
 use Rattle.model.specs.declared.StateStatus.{StateStatus}
-use Rattle.model.specs.declared.StateStatus.TheVariants.{Calibrated, Rare, NoPriceMove, OutsideQuotes}
 use Rattle.basics.specs.Lists.{cell_at}
 use Rattle.fit_marking.specs.Marks.{Cells, cells_of, observations, mark_of}
 use Rattle.fit_marking.specs.Below.{sum_to}
+use Rattle.fit_marking.specs.Inner.{row_of}
 use Rattle.fit_marking.proofs.Below.{sum_more, sum-part}
-use Rattle.fit_marking.proofs.Rows.{row-in-tables, any-least, observations-fit}
+use Rattle.fit_marking.proofs.Rows.{length-row, row-at, row-in-tables, any-least, observations-fit}
 use Rattle.fit_linear.specs.Arithmetic.{rounded}
 use Rattle.fit_linear.specs.Elimination.{system}
 use Rattle.fit_linear.specs.Inner.{float_at, from, Becomes, Filled}
 use Rattle.fit_series.specs.Inner.{width}
 use Rattle.fit_linear.proofs.Parts.{outside-row}
-use Rattle.fit_system.specs.Inner.{Exact}
-use Rattle.fit_system.specs.Rows.{total_of, is_calibrated, used, part, Q, T, K, fallback, system_of}
+use Rattle.fit_system.specs.Inner.{Exact, AllExact, observed_in, part_by, fallback_by, stay_part, moved_part}
+use Rattle.fit_system.specs.Rows.{total_of, used, part, Q, T, K, fallback, system_of}
 
 -- ---- numbers of a row
 
 cell_below : (n k : ℕ) (f : ℕ → ℕ) → k < n → f k ≤ sum_to n f
 cell_below n k f h = omega (arith, sum_more k f, sum-part (k + 1) n f (omega arith))
 
--- row x lies in the tables, and its cells, its move total and its observations o are exact as floats
-pub record RowExact (n : ℕ) (stay moved : List ℕ) (totals : List ℤ) (x o : ℕ) : Type 0 where
+-- row x lies in the tables, and its cells, its move total and its observations are exact as floats
+pub record RowExact (n : ℕ) (stay moved : List ℕ) (totals : List ℤ) (x : ℕ) : Type 0 where
   pub stay-in : x * n + n ≤ length stay
-  pub stay-exact : (k : ℕ) → k < n → cell_at n stay x k ≤ exact_whole
+  pub stay-exact : AllExact (row_of n stay x)
   pub moved_in : x * n + n ≤ length moved
-  pub moved-exact : (k : ℕ) → k < n → cell_at n moved x k ≤ exact_whole
+  pub moved-exact : AllExact (row_of n moved x)
   pub total-in : x < length totals
   pub total-exact : in_float binary64 (total_of totals x) ≡ true
-  pub observed-exact : o ≤ exact_whole
+  pub observed-exact : (mark : StateStatus) → IfSome (observed_in (is_calibrated mark) (observations (cells_of n 0 stay moved) x)) (λ o. o ≤ exact_whole)
 
-pub row-exact : {n : ℕ} {stay moved : List ℕ} {totals : List ℤ} {x o : ℕ} → Exact n stay moved totals → x < n
-    → o ≡ observations (cells_of n 0 stay moved) x → RowExact n stay moved totals x o
-row-exact {n} {stay} {moved} {totals} {x} {o} e h is-o =
+pub row-exact : {n : ℕ} {stay moved : List ℕ} {totals : List ℤ} {x : ℕ} → Exact n stay moved totals → x < n → RowExact n stay moved totals x
+row-exact {n} {stay} {moved} {totals} {x} e h =
     let r = row-in-tables e.cells h in
     record {
       stay-in = r.stay-in;
-      stay-exact = λ k g. omega (arith, cell_below n k (cell_at n stay x) g);
+      stay-exact = λ k g. let b : k < n = omega (arith, length-row n stay x r.stay-in) in omega (arith, row-at n stay x k b, cell_below n k (cell_at n stay x) b);
       moved_in = r.moved_in;
-      moved-exact = λ k g. omega (arith, cell_below n k (cell_at n moved x) g);
+      moved-exact = λ k g. let b : k < n = omega (arith, length-row n moved x r.moved_in) in omega (arith, row-at n moved x k b, cell_below n k (cell_at n moved x) b);
       total-in = omega (arith, e.totals-long);
       total-exact = e.totals-exact x h;
-      observed-exact = rw is-o (observations-fit n 0 stay moved x e.cells h);
+      observed-exact = λ mark. few (is_calibrated mark);
     }
-
--- the number of a mark says whether the row is used
-pub used-number : (s : StateStatus) → eqb (status_number s) 0 ≡ is_calibrated s
-used-number Calibrated = refl
-used-number Rare = refl
-used-number NoPriceMove = refl
-used-number OutsideQuotes = refl
+  where
+    few : (u : Bool) → IfSome (observed_in u (observations (cells_of n 0 stay moved) x)) (λ o. o ≤ exact_whole)
+    few true = observations-fit n 0 stay moved x e.cells h
+    few false = tt
 
 -- ---- one row
 
@@ -178,23 +175,55 @@ state-row C total x base u o is-u is-o l m e t f a long is-t is_f b =
     (rw is-u at is_f)
     (rw (is-u, is-o) at b)
 
+-- a part of a row whose cells are those of the table
+part-of-row : {base n : ℕ} (row : List ℕ) {v w : ℕ → Float} {l m : List Float} → length row ≡ n → ((k : ℕ) → k < n → v k ≡ w k)
+    → Filled base (length row) v l m → Filled base n w l m
+part-of-row {base} {n} row {v} {w} {l} {m} e same f =
+    let g : Filled base n v l m = rw e at f in
+    record { cells = λ k h. g.cells k h ∙ same k h; elsewhere = g.elsewhere }
+
+-- a part by what the functions take
+parts : (u : Bool) (o : ℕ) (z : ℤ) → part_by (observed_in u o) z ≡ part u z o
+unfolding part
+parts true o z = refl
+parts false o z = refl
+
+fallbacks : (u : Bool) (o : ℕ) → fallback_by (observed_in u o) ≡ cond u pos_zero one
+fallbacks true o = refl
+fallbacks false o = refl
+
 -- row x of a state with this mark, by its parts in the order of the code
-pub row-by-parts : (n least mark x o : ℕ) (stay moved : List ℕ) (totals : List ℤ) {l m e : List Float} {t f : Float}
-    → mark ≡ status_number (mark_of (cells_of n least stay moved) x)
-    → o ≡ observations (cells_of n 0 stay moved) x
-    → Filled (x * width n) n (λ k. let q = part (eqb mark 0) (pos (cell_at n stay x k)) o in cond (eqb x k) (sub binary64 one q) (neg q)) l m
+pub row-by-parts : (n least x : ℕ) (mark : StateStatus) (stay moved : List ℕ) (totals : List ℤ) (observed : Option ℕ) (stays moves : List ℕ)
+    {l m e : List Float} {t f : Float}
+    → RowExact n stay moved totals x
+    → mark ≡ mark_of (cells_of n least stay moved) x
+    → observed ≡ observed_in (is_calibrated mark) (observations (cells_of n 0 stay moved) x)
+    → stays ≡ row_of n stay x
+    → moves ≡ row_of n moved x
+    → Filled (x * width n) (length stays) (stay_part stays x observed) l m
     → x * width n + width n ≤ length m
-    → t ≡ part (eqb mark 0) (total_of totals x) o
-    → f ≡ cond (eqb mark 0) pos_zero one
-    → Filled (x * width n + (n + 2)) n (λ k. part (eqb mark 0) (pos (cell_at n moved x k)) o)
-    (set (set m (x * width n + n) t) (x * width n + (n + 1)) f) e
+    → t ≡ part_by observed (total_of totals x)
+    → f ≡ fallback_by observed
+    → Filled (x * width n + (n + 2)) (length moves) (moved_part moves observed) (set (set m (x * width n + n) t) (x * width n + (n + 1)) f) e
     → Filled (x * width n) (width n) (system_of (cells_of n least stay moved) (total_of totals) x) l e
-row-by-parts n least mark x o stay moved totals {l} {m} {e} {t} {f} marked is-o left long is-t is_f right =
-    let C = cells_of n least stay moved in
-    state-row C (total_of totals) x (x * width n) (eqb mark 0) o
-    (ap (λ m. eqb m 0) marked ∙ used-number (mark_of C x))
-    (is-o ∙ sym (any-least n least stay moved x))
-    l m e t f left (omega arith) is-t is_f right
+row-by-parts n least x mark stay moved totals observed stays moves {l} {m} {e} {t} {f} exact marked is-o is-stay is-moved left long is-t is_f right =
+    let u = is_calibrated mark in
+    let o = observations (cells_of n 0 stay moved) x in
+    let p : (z : ℤ) → part_by observed z ≡ part u z o = λ z. ap (λ b. part_by b z) is-o ∙ parts u o z in
+    let at-stay : (k : ℕ) → k < n → get_or stays k 0 ≡ cell_at n stay x k = λ k h. ap (λ r. get_or r k 0) is-stay ∙ row-at n stay x k h in
+    let at-moved : (k : ℕ) → k < n → get_or moves k 0 ≡ cell_at n moved x k = λ k h. ap (λ r. get_or r k 0) is-moved ∙ row-at n moved x k h in
+    let less : ℕ → Float → Float = λ k q. cond (eqb x k) (sub binary64 one q) (neg q) in
+    state-row (cells_of n least stay moved) (total_of totals) x (x * width n) u o
+    (ap is_calibrated marked)
+    (sym (any-least n least stay moved x))
+    l m e t f
+    (part-of-row stays (ap length is-stay ∙ length-row n stay x exact.stay-in)
+    (λ k h. ap (λ c. less k (part_by observed (pos c))) (at-stay k h) ∙ ap (less k) (p (pos (cell_at n stay x k)))) left)
+    (omega arith)
+    (is-t ∙ p (total_of totals x))
+    (is_f ∙ ap fallback_by is-o ∙ fallbacks u o)
+    (part-of-row moves (ap length is-moved ∙ length-row n moved x exact.moved_in)
+    (λ k h. ap (λ c. part_by observed (pos c)) (at-moved k h) ∙ p (pos (cell_at n moved x k))) right)
 
 -- ---- rows one after another
 

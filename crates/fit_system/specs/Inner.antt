@@ -1,13 +1,13 @@
 -- For the contracts and proofs of inner functions alone: what is asked of the tables and of the marks, and the solution in its places of scratch.
-use Rattle.std.specs.Prelude.{ℕ, ◌<◌, ◌≤◌, ◌≡◌, true, List, ℤ, length, get_or, Float}
+use Rattle.std.specs.Prelude.{ℕ, ◌<◌, ◌≤◌, ◌≡◌, Bool, true, cond, eqb, List, ℤ, pos, length, get_or, Float, Option, Some, None, Ok}
 use Rattle.std.specs.Float.{binary64}
-use Rattle.std.specs.Float.Ieee.{in_float}
-use Rattle.model.specs.Status.{status_number}
-use Rattle.fit_marking.specs.Marks.{Cells, Fitting, mark_of}
+use Rattle.std.specs.Float.Ieee.{in_float, sub, div, neg}
+use Rattle.floats.specs.Floats.{pos_zero, one, exact_whole, from_int}
+use Rattle.model.specs.declared.StateStatus.{StateStatus}
+use Rattle.fit_marking.specs.Marks.{Cells, mark_of, mark_at}
+use Rattle.fit_marking.specs.Inner.{Fitting}
 use Rattle.fit_system.specs.Rows.{total_of}
-use Rattle.refusals.specs.Refusals.{refusal}
-use Rattle.refusals.specs.declared.Check.{Check}
-use Rattle.refusals.specs.declared.Check.TheVariants.{Fine}
+use Rattle.refusals.specs.Refusals.{refusal, Check}
 use Rattle.fit_linear.specs.Inner.{from}
 use Rattle.fit_series.specs.Inner.{sum_at, share_at, solved_g1}
 use Rattle.fit_system.specs.Solution.{Solution, solution, unsolved}
@@ -19,13 +19,38 @@ pub record Exact (N : ℕ) (stay moved : List ℕ) (totals : List ℤ) : Type 0 
   pub totals-long : length totals ≡ N
   pub totals-exact : (i : ℕ) → i < N → in_float binary64 (total_of totals i) ≡ true
 
--- each state's place holds the number of its mark
-pub record Marks (C : Cells) (marks : List ℕ) : Type 0 where
+-- each cell is exact as a float
+abbrev pub AllExact : List ℕ → Type 0
+AllExact cells = (k : ℕ) → k < length cells → get_or cells k 0 ≤ exact_whole
+
+-- what the functions take of a state: its observations, if its row is used
+abbrev pub observed_in : Bool → ℕ → Option ℕ
+observed_in used observed = cond used (Some observed) None
+
+-- a number by the observations, and what a fallback state has in its place
+abbrev pub part_by : Option ℕ → ℤ → Float
+part_by (Some observed) number = div binary64 (from_int number) (from_int (pos observed))
+part_by None number = pos_zero
+
+abbrev pub fallback_by : Option ℕ → Float
+fallback_by (Some observed) = pos_zero
+fallback_by None = one
+
+-- 1 − Q and T of a row, by its cells
+abbrev pub stay_part : List ℕ → ℕ → Option ℕ → ℕ → Float
+stay_part cells x observed k =
+    let q = part_by observed (pos (get_or cells k 0)) in cond (eqb x k) (sub binary64 one q) (neg q)
+
+abbrev pub moved_part : List ℕ → Option ℕ → ℕ → Float
+moved_part cells observed k = part_by observed (pos (get_or cells k 0))
+
+-- each state's place holds its mark
+pub record Marks (C : Cells) (marks : List StateStatus) : Type 0 where
   pub enough : C.states ≤ length marks
-  pub numbers : (i : ℕ) → i < C.states → get_or marks i 0 ≡ status_number (mark_of C i)
+  pub each : (i : ℕ) → i < C.states → mark_at marks i ≡ mark_of C i
 
 abbrev pub check_of : Solution → Check
-check_of (solution G1 sum share) = Fine
+check_of (solution G1 sum share) = Ok tt
 check_of (unsolved k) = refusal k
 
 -- G1, sum and share of n states stand in their places

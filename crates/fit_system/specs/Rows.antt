@@ -1,19 +1,12 @@
 -- The rows Q, T and K and the system of the fit: document 01, "The fit". Generic in the states.
-use Rattle.std.specs.Prelude.{ℕ, Bool, true, false, cond, ℤ, pos, Float, List, get_or}
+use Rattle.std.specs.Prelude.{ℕ, Bool, cond, ℤ, pos, Float, List, get_or}
 use Rattle.std.specs.Float.{binary64}
 use Rattle.std.specs.Float.Ieee.{div}
 use Rattle.floats.specs.Floats.{pos_zero, one, from_int}
-use Rattle.model.specs.declared.StateStatus.{StateStatus}
-use Rattle.model.specs.declared.StateStatus.TheVariants.{Calibrated, Rare, NoPriceMove, OutsideQuotes}
+use Rattle.model.specs.Status.{is_calibrated}
 use Rattle.fit_marking.specs.Marks.{Cells, observations, mark_of}
 use Rattle.fit_linear.specs.Arithmetic.{rounded}
 use Rattle.fit_linear.specs.Elimination.{system}
-
-abbrev pub is_calibrated : StateStatus → Bool
-is_calibrated Calibrated = true
-is_calibrated Rare = false
-is_calibrated NoPriceMove = false
-is_calibrated OutsideQuotes = false
 
 -- only Calibrated states have rows
 abbrev pub used : Cells → ℕ → Bool

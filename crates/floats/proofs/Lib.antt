@@ -6,4 +6,3 @@ pub mod Whole
 pub mod Within
 pub mod Helpers
 pub mod Zeros
-pub mod Finite

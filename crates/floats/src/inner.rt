@@ -21,6 +21,7 @@ pub fn from_i64(n: i64) -> f64
 }
 
 // Half a tick.
+#[tactic(auto, using(crate::proofs::Helpers::half_is))]
 pub fn half_tick(tick: u64) -> f64
     requires { tick ≤ exact_whole }
     ensures { result ≡ half_tick tick }
@@ -29,6 +30,7 @@ pub fn half_tick(tick: u64) -> f64
 }
 
 // Half a spread of so many ticks.
+#[tactic(auto, using(crate::proofs::Helpers::half_is))]
 pub fn half_spread(tick_size: u64, spread_ticks: u64) -> f64
     requires { tick_size * spread_ticks ≤ exact_whole }
     ensures { result ≡ half_spread tick_size spread_ticks }

@@ -8,89 +8,78 @@ ghost use Rattle.std.specs.Float.Ieee.Scale.{finite};
 ghost use Rattle.floats.specs.Floats as Floats;
 
 // The size of a float.
+#[tactic(auto, using(crate::proofs::Helpers::abs_is))]
 pub fn abs(x: f64) -> f64
     ensures { result ≡ Floats.abs x }
 {
-    if x < 0.0 {
-        return -x;
-    }
-    plus_zero(x)
+    x.abs()
 }
 
 // Of two sizes, the second is as great or greater; NaN is above all and equal to any NaN.
+#[tactic(auto, unfolding(crate::specs::Floats::as_great))]
 pub fn as_great(x: f64, y: f64) -> bool
     ensures { result ≡ Floats.as_great x y }
 {
-    if y != y {
-        return true;
-    }
-    x <= y
+    y.is_nan() | (x <= y)
 }
 
 // The larger of two; NaN is passed over.
+#[tactic(auto, using(crate::proofs::Helpers::max_second, crate::proofs::Helpers::max_first))]
 pub fn max(x: f64, y: f64) -> f64
     ensures { result ≡ Floats.max x y }
 {
-    if x != x {
-        return y;
-    }
-    if x < y {
-        return y;
-    }
-    x
+    if x.is_nan() | (x < y) { y } else { x }
 }
 
+#[tactic(auto, using(crate::proofs::Helpers::infinite_is))]
 pub fn is_infinite(x: f64) -> bool
     ensures { result ≡ Floats.is_infinite x }
 {
-    (x == 1.0 / 0.0) | (x == -1.0 / 0.0)
+    x.is_infinite()
 }
 
+#[tactic(auto, using(crate::proofs::Helpers::finite_is))]
 pub fn is_finite(x: f64) -> bool
     ensures { result ≡ finite x }
 {
-    (x == x) & !is_infinite(x)
+    x.is_finite()
 }
 
 // Clamps to 0..1; NaN stays.
+#[tactic(auto, unfolding(crate::specs::Floats::clamp))]
 pub fn clamp(x: f64) -> f64
     ensures { result ≡ Floats.clamp x }
 {
-    if x < 0.0 {
-        return 0.0;
-    }
-    if x > 1.0 {
-        return 1.0;
-    }
-    x
+    x.clamp(0.0, 1.0)
 }
 
 // Zero as plus zero.
 pub fn plus_zero(x: f64) -> f64
     ensures { result ≡ Floats.plus_zero x }
 {
-    if x == 0.0 {
-        return 0.0;
-    }
-    x
+    if x == 0.0 { 0.0 } else { x }
 }
 
 // The bits, any NaN's as one pattern: the machine's NaN may have any.
+#[tactic(auto, using(crate::proofs::Helpers::nan_pattern))]
 pub fn to_bits(x: f64) -> u64
     ensures { result ≡ Floats.bits_of x }
 {
-    if x != x {
-        return 0x7ff8_0000_0000_0000;
+    if x.is_nan() {
+        0x7ff8_0000_0000_0000
+    } else {
+        x.to_bits()
     }
-    f64::to_bits(x)
 }
 
 // The float of any bits; every NaN pattern is NaN.
+#[tactic(auto, using(crate::proofs::Helpers::pattern_nan, crate::proofs::Helpers::pattern_no_nan))]
 pub fn from_bits(bits: u64) -> f64
     ensures { result ≡ Floats.from_bits bits }
 {
     if 0x7ff0_0000_0000_0000 < bits % 0x8000_0000_0000_0000 {
-        return 0.0 / 0.0;
+        f64::NAN
+    } else {
+        f64::from_bits(bits)
     }
-    f64::from_bits(bits)
 }

@@ -8,9 +8,9 @@ use lib.Dec.{T}
 use Rattle.basics.specs.Lists.{same_words}
 use lib.ListN.{length}
 use Rattle.basics.proofs.Lists.{same-equal}
-use Rattle.refusals.specs.Refusals.{refuse_if, first_of}
-use Rattle.refusals.specs.declared.Check.{Check}
-use Rattle.refusals.specs.declared.Check.TheVariants.{Fine, Refused}
+use Rattle.refusals.specs.Refusals.{refuse_if, first_of, Check}
+use Rattle.std.specs.Prelude.{Some, None, Result, Ok, Err}
+use Rattle.refusals.specs.declared.Refusal.{Refusal}
 use Rattle.refusals.proofs.Refusals.{if-fine, first_fine}
 use Rattle.config.specs.Configuration.{states, valid}
 use Rattle.config.specs.Inner.{Valid}
@@ -25,14 +25,11 @@ use Rattle.tally.specs.Rules.{Memory, step}
 use Rattle.tally.proofs.Step.{step-memory}
 use Rattle.tally.proofs.Balance.{after_none}
 use Rattle.image_words.specs.Words.{AllWords}
-use Rattle.calibrator.specs.Record.{answered}
-use Rattle.calibrator.specs.Observe.{rule, fresh, judge, refusal_by, earlier}
-use Rattle.calibrator.specs.declared.Previous.{Previous}
-use Rattle.calibrator.specs.declared.Previous.TheVariants.{Nothing, Quoted}
+use Rattle.calibrator.specs.Record.{answered, Previous}
+use Rattle.calibrator.specs.Observe.{rule, fresh, judge, refusal_by, earlier, lent_wrong}
 use Rattle.calibrator.proofs.Step.{rule-lawful}
 use Rattle.image_layout.specs.Layout.{newest, image, previous_words}
-use Rattle.image.specs.Image.{saved_unless, save_refusal, end_restore, Taken, restored, lent_wrong}
-use Rattle.image.specs.declared.Restored.{Restored}
+use Rattle.image.specs.Image.{saved_unless, save_refusal, end_restore, Taken, restored}
 use Rattle.history.specs.Calls.{Call, quote, save, restore, observes, saves, restores, Acted, acted, after_restore, act, run, History, begins, new_history, gains, history_memory, history_refusal, Kept, Past, new_past, or_else, kept_with, returns, HistoryActed, history_acted, history_quote, history_save, history_restore, check_output_length, history_act, history_run, is_some, is_refused, Proper, OwnImages, ConfigWords}
 use Rattle.history.proofs.Holds.{Holds, new-holds, step-holds, quote-first, save-first, image-back}
 
@@ -55,8 +52,8 @@ begins-memory c m sized = go m.last
     counts-are = after_none (rule c).kinds (states c) (rule c).mirror m.counts sized
 
     go : (l : Previous) → history_memory c (begins (record { last = l; counts = m.counts })) ≡ record { last = l; counts = m.counts }
-    go Nothing = λ i. record { last = Nothing; counts = counts-are i }
-    go (Quoted q) = λ i. record { last = Quoted q; counts = counts-are i }
+    go None = λ i. record { last = None; counts = counts-are i }
+    go (Some q) = λ i. record { last = Some q; counts = counts-are i }
 
 module _ (c : MicroPriceConfig) (e : valid c ≡ true) (fits : ConfigWords c) where
   v : Valid c
@@ -87,7 +84,7 @@ module _ (c : MicroPriceConfig) (e : valid c ≡ true) (fits : ConfigWords c) wh
   -- ---- a quote
 
   grown : (H : History) (q : TopOfBook) → step (rule c) (history_memory c H) q ≡ history_memory c (gains H q)
-  grown H q = step-memory (rule c) (rule-lawful c v) Nothing H.start H.quotes q
+  grown H q = step-memory (rule c) (rule-lawful c v) None H.start H.quotes q
 
   pub refusal_is : (H : History) → Sound H → (q : TopOfBook) → refusal_by (rule c) (judge c) (history_memory c H) q ≡ history_refusal c H q
   refusal_is H h q =
@@ -95,7 +92,7 @@ module _ (c : MicroPriceConfig) (e : valid c ≡ true) (fits : ConfigWords c) wh
       ∙ ap (λ (m : Memory Previous). first_of (first_of (check_quote c q) (refuse_if (earlier (history_memory c H).last q) 5)) (refuse_if (over_limit m.counts) 6))
       (grown H q)
 
-  sound-gains : (H : History) → Sound H → (q : TopOfBook) → AllWords (previous_words (Quoted q)) → history_refusal c H q ≡ Fine → Sound (gains H q)
+  sound-gains : (H : History) → Sound H → (q : TopOfBook) → AllWords (previous_words (Some q)) → history_refusal c H q ≡ Ok tt → Sound (gains H q)
   sound-gains H h q words fine =
       let f = first_fine (first_of (check_quote c q) (refuse_if (earlier (history_memory c H).last q) 5))
       (refuse_if (over_limit (history_memory c (gains H q)).counts) 6) fine in
@@ -107,16 +104,16 @@ module _ (c : MicroPriceConfig) (e : valid c ≡ true) (fits : ConfigWords c) wh
         holds = subst (Holds c) (grown H q) (step-holds c v (history_memory c H) h.holds q words g.0 inside);
       }
 
-  quote-agrees : (P : Past) → Good P → (q : TopOfBook) → AllWords (previous_words (Quoted q))
+  quote-agrees : (P : Past) → Good P → (q : TopOfBook) → AllWords (previous_words (Some q))
       → Agrees (act c (history_memory c P.now) (quote q)) (history_act c P (quote q))
   quote-agrees P G q words = go (refusal_by (rule c) (judge c) m q) (history_refusal c P.now q) (refusal_is P.now G.now-sound q) (λ f. f)
     where
       m : Memory Previous
       m = history_memory c P.now
 
-      go : (k : Check) (k' : Check) → k ≡ k' → (k' ≡ Fine → history_refusal c P.now q ≡ Fine)
+      go : (k : Check) (k' : Check) → k ≡ k' → (k' ≡ Ok tt → history_refusal c P.now q ≡ Ok tt)
           → Agrees (acted (observes (answered k m (step (rule c) m q)).answer) (answered k m (step (rule c) m q)).left) (history_quote k' P (gains P.now q))
-      go k Fine f g =
+      go k (Ok _) f g =
           rw f
           (record {
             answers = refl;
@@ -127,7 +124,7 @@ module _ (c : MicroPriceConfig) (e : valid c ≡ true) (fits : ConfigWords c) wh
                   all-kept = G.all-kept;
                 };
           })
-      go k (Refused r) f g = rw f (record { answers = refl; memories = refl; good = G })
+      go k (Err r) f g = rw f (record { answers = refl; memories = refl; good = G })
 
   -- ---- a save
 
@@ -138,14 +135,14 @@ module _ (c : MicroPriceConfig) (e : valid c ≡ true) (fits : ConfigWords c) wh
       m = history_memory c P.now
 
       go : (k k' : Check) → k ≡ k' → Agrees (acted (saves (saved_unless k out (image newest c m))) m) (history_save k' P out (image newest c m))
-      go k Fine f =
+      go k (Ok _) f =
           rw f
           (record {
             answers = refl;
             memories = refl;
             good = record { now-sound = G.now-sound; all-kept = (refl, G.now-sound, G.all-kept) };
           })
-      go k (Refused r) f = rw f (record { answers = refl; memories = refl; good = G })
+      go k (Err r) f = rw f (record { answers = refl; memories = refl; good = G })
 
   -- ---- a restore
 
@@ -171,9 +168,9 @@ module _ (c : MicroPriceConfig) (e : valid c ≡ true) (fits : ConfigWords c) wh
       m : Memory Previous
       m = history_memory c P.now
 
-      other : (a : Restored) (filled : Memory Previous) → T (is_refused a) → Agrees (acted (restores a) (after_restore a m filled)) (history_acted (restores a) P)
-      other (Restored.Config d) filled f = absurd f
-      other (Restored.Refused r) filled f = record { answers = refl; memories = refl; good = G }
+      other : (a : Result MicroPriceConfig Refusal) (filled : Memory Previous) → T (is_refused a) → Agrees (acted (restores a) (after_restore a m filled)) (history_acted (restores a) P)
+      other (Ok d) filled f = absurd f
+      other (Err r) filled f = record { answers = refl; memories = refl; good = G }
 
       go : (t : Taken) → restored b lent ≡ t → (w : Bool) → lent_wrong (states c) lent.counts.tables ≡ w → (o : Option History) → returns c P b ≡ o
           → T ((not w && is_some o) || is_refused t.answer)
@@ -182,7 +179,7 @@ module _ (c : MicroPriceConfig) (e : valid c ≡ true) (fits : ConfigWords c) wh
       go t et false ew none eo f = other t.answer t.left f
       go t et false ew (some H) eo f =
           let r : IsImage b H = subst (IfKept (IsImage b)) eo (returned-is P G b) in
-          let back : t ≡ end_restore (Restored.Config c) (history_memory c H) =
+          let back : t ≡ end_restore (Ok c) (history_memory c H) =
           sym et ∙ ap (λ (x : List ℕ). restored x lent) r.is ∙ image-back c e fits (history_memory c H) r.sound.holds lent ew in
           rw back
           (record {
@@ -265,13 +262,13 @@ module _ (c : MicroPriceConfig) where
   act-new P n (quote q) = go (history_refusal c P.now q)
     where
       go : (k : Check) → New (history_quote k P (gains P.now q)).past
-      go Fine = record { now-new = n.now-new; kept_new = n.kept_new }
-      go (Refused r) = n
+      go (Ok _) = record { now-new = n.now-new; kept_new = n.kept_new }
+      go (Err r) = n
   act-new P n (save out) = go (check_output_length c out)
     where
       go : (k : Check) → New (history_save k P out (image newest c (history_memory c P.now))).past
-      go Fine = record { now-new = n.now-new; kept_new = (n.now-new, n.kept_new) }
-      go (Refused r) = n
+      go (Ok _) = record { now-new = n.now-new; kept_new = (n.now-new, n.kept_new) }
+      go (Err r) = n
   act-new P n (restore b lent) = go (lent_wrong (states c) lent.counts.tables) (returns c P b) refl
     where
       go : (w : Bool) (o : Option History) → returns c P b ≡ o → New (history_restore c P (restored b lent).answer w o).past

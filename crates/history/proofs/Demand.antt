@@ -9,9 +9,9 @@ use native.Mathlib.Omega.{arith}
 use lib.IntN.{ℤ, pos, ◌+ℤ◌, +ℤ_idl}
 use lib.ListN.{length, get_or, get_or-replicate}
 use Rattle.basics.specs.Lists.{any, count, greatest, sum, tab, cell_at}
-use Rattle.basics.proofs.Lists.{get_d-tab, get_d-square, flat-below, tab-ext, tab-get_d, sum-tab-add}
-use Rattle.refusals.specs.declared.Check.{Check}
-use Rattle.refusals.specs.declared.Check.TheVariants.{Fine, Refused}
+use Rattle.basics.proofs.Lists.{get_or-tab, get_or-square, flat-below, tab-ext, tab-get_or, sum-tab-add}
+use Rattle.std.specs.Prelude.{Some, None, Ok, Err}
+use Rattle.refusals.specs.Refusals.{Check}
 use Rattle.config.specs.Configuration.{states, valid}
 use Rattle.config.specs.Inner.{Valid}
 use Rattle.config.specs.declared.MicroPriceConfig.{MicroPriceConfig}
@@ -21,10 +21,8 @@ use Rattle.tally.specs.Events.{Counts, stay_at, moved_at, total_at, is_pair, is_
 use Rattle.tally.specs.Rules.{Memory, step, carried}
 use Rattle.tally.specs.Balance.{Sized, Balanced}
 use Rattle.tally.proofs.Balance.{neighbours-counted}
-use Rattle.calibrator.specs.Record.{answered}
+use Rattle.calibrator.specs.Record.{answered, Previous}
 use Rattle.calibrator.specs.Observe.{rule, fresh, observed, judge, refusal_by}
-use Rattle.calibrator.specs.declared.Previous.{Previous}
-use Rattle.calibrator.specs.declared.Previous.TheVariants.{Nothing, Quoted}
 use Rattle.calibrator.proofs.Step.{rule-lawful}
 use Rattle.image.specs.Image.{saved}
 use Rattle.history.specs.Calls.{Call, save, restore, run, History, history_memory, Past, new_past, history_act, history_run, OwnImages, ConfigWords}
@@ -34,19 +32,19 @@ use Rattle.history.proofs.Claim.{list-claim, own-parts, part-claim, empty-is, re
 use Rattle.history.proofs.Returns.{history-run-append, returns-to-save}
 
 answer-is : (k : Check) (m n : Memory Previous) → (answered k m n).answer ≡ k
-answer-is Fine m n = refl
-answer-is (Refused r) m n = refl
+answer-is (Ok _) m n = refl
+answer-is (Err r) m n = refl
 
-last-carried : (c : MicroPriceConfig) (q : TopOfBook) (qs : List TopOfBook) → carried (rule c) (Quoted q) qs ≡ last_of (q ∷ qs)
+last-carried : (c : MicroPriceConfig) (q : TopOfBook) (qs : List TopOfBook) → carried (rule c) (Some q) qs ≡ last_of (q ∷ qs)
 last-carried c q [] = refl
 last-carried c q (r ∷ qs) = last-carried c r qs
 
-last-of : (c : MicroPriceConfig) (qs : List TopOfBook) → carried (rule c) Nothing qs ≡ last_of qs
+last-of : (c : MicroPriceConfig) (qs : List TopOfBook) → carried (rule c) None qs ≡ last_of qs
 last-of c [] = refl
 last-of c (q ∷ qs) = last-carried c q qs
 
 sum-on-top : (l : List ℕ) (n : ℕ) (f : ℕ → ℕ) → length l ≡ n → sum (tab n (λ k. get_or l k 0 + f k)) ≡ sum l + sum (tab n f)
-sum-on-top l n f e = sum-tab-add n (λ k. get_or l k 0) f ∙ ap (λ (x : List ℕ). sum x + sum (tab n f)) (tab-get_d l n 0 e)
+sum-on-top l n f e = sum-tab-add n (λ k. get_or l k 0) f ∙ ap (λ (x : List ℕ). sum x + sum (tab n f)) (tab-get_or l n 0 e)
 
 -- ---- a start of zeros adds nothing
 
@@ -87,22 +85,22 @@ module _ (c : MicroPriceConfig) (e : valid c ≡ true) (fits : ConfigWords c) wh
     N = states c
 
     stay_of : (i j : ℕ) → i < N → j < N → cell_at N (history_memory c H).counts.tables.stay i j ≡ cell_at N H.start.tables.stay i j + stay_at (flow c H) i j
-    stay_of i j hi hj = get_d-square N (λ x y. cell_at N H.start.tables.stay x y + stay_at (flow c H) x y) i j 0 hi hj
+    stay_of i j hi hj = get_or-square N (λ x y. cell_at N H.start.tables.stay x y + stay_at (flow c H) x y) i j 0 hi hj
 
     moved-of : (i j : ℕ) → i < N → j < N
         → cell_at N (history_memory c H).counts.tables.moved i j ≡ cell_at N H.start.tables.moved i j + moved_at (flow c H) i j
-    moved-of i j hi hj = get_d-square N (λ x y. cell_at N H.start.tables.moved x y + moved_at (flow c H) x y) i j 0 hi hj
+    moved-of i j hi hj = get_or-square N (λ x y. cell_at N H.start.tables.moved x y + moved_at (flow c H) x y) i j 0 hi hj
 
     total_of : (i : ℕ) → i < N
         → get_or (history_memory c H).counts.tables.totals i (pos 0) ≡ get_or H.start.tables.totals i (pos 0) +ℤ total_at (flow c H) i
-    total_of i hi = get_d-tab N (λ x. get_or H.start.tables.totals x (pos 0) +ℤ total_at (flow c H) x) i (pos 0) hi
+    total_of i hi = get_or-tab N (λ x. get_or H.start.tables.totals x (pos 0) +ℤ total_at (flow c H) x) i (pos 0) hi
 
     neighbours-of : Sized (rule c).kinds N H.start
         → (history_memory c H).counts.pairs + sum (history_memory c H).counts.skips ≡ H.start.pairs + sum H.start.skips + (length H.quotes - 1)
     neighbours-of sized =
         ap (λ (n : ℕ). (history_memory c H).counts.pairs + n)
         (sum-on-top H.start.skips (rule c).kinds (λ k. count (is_skip k) (neighbours_in c H)) sized.skip-kinds)
-        ∙ omega (arith, neighbours-counted (rule c) (rule-lawful c v) Nothing H.quotes refl)
+        ∙ omega (arith, neighbours-counted (rule c) (rule-lawful c v) None H.quotes refl)
 
   -- what the operations leave after a list
   left_after : (ks : List Call) → OwnImages c (new_past c) ks → left c ks ≡ history_memory c (history_of c ks)

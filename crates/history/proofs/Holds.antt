@@ -15,9 +15,10 @@ use Rattle.basics.specs.Domain.{most_half_ticks, counter_limit, cell_limit}
 use Rattle.image_words.specs.Words.{twos, AllWords}
 use Rattle.image_words.proofs.Round.{all_append}
 use Rattle.tally.proofs.Sums.{change-size}
-use Rattle.refusals.specs.Refusals.{refuse_if, first_of, first_from}
-use Rattle.refusals.specs.declared.Check.{Check}
-use Rattle.refusals.specs.declared.Check.TheVariants.{Fine, Refused}
+use Rattle.refusals.specs.Refusals.{refuse_if, first_of, first_from, Check}
+use Rattle.std.specs.Prelude.{Some, None, Result, Ok, Err}
+use Rattle.quotes.specs.declared.Pair.{Pair}
+use Rattle.quotes.specs.declared.Skip.{Skip}
 use Rattle.config.specs.Configuration.{states, valid}
 use Rattle.config.specs.Inner.{Valid}
 use Rattle.config.specs.declared.MicroPriceConfig.{MicroPriceConfig}
@@ -26,8 +27,6 @@ use Rattle.quotes.specs.Inner.{Accepted}
 use Rattle.quotes.specs.Neighbours.{neighbours_of}
 use Rattle.quotes.specs.Quotes.{check_quote}
 use Rattle.quotes.specs.States.{mirror_of}
-use Rattle.quotes.specs.declared.Neighbours.{Neighbours}
-use Rattle.quotes.specs.declared.Neighbours.TheVariants.{Skipped, Counted}
 use Rattle.quotes.specs.declared.Skip.TheVariants.{Gap, Spread}
 use Rattle.quotes.specs.declared.TopOfBook.{TopOfBook}
 use Rattle.quotes.proofs.Known.{fine-known}
@@ -42,15 +41,12 @@ use Rattle.tally.proofs.Step.{entered-after}
 use Rattle.tally.proofs.Balance.{after_none, after-sized, zeros-sized, zeros-balanced, after-balanced}
 use Rattle.tally.proofs.Overs.{Within, within-known, zeros_within, over-touched}
 use Rattle.count_check.specs.Mirrors.{same_total, stored_over, total_mirrored, cell_mirrored, row_mirrored, check_state, is_twice, check_counts}
-use Rattle.calibrator.specs.Record.{kind_of, skipped}
-use Rattle.calibrator.specs.Observe.{rule, fresh, event_from, event_of, check_memory, broken, refuses, judge, refusal_by, earlier}
-use Rattle.calibrator.specs.declared.Previous.{Previous}
-use Rattle.calibrator.specs.declared.Previous.TheVariants.{Nothing, Quoted}
+use Rattle.calibrator.specs.Record.{kind_of, skipped, Previous}
+use Rattle.calibrator.specs.Observe.{rule, fresh, event_from, event_of, check_memory, broken, refuses, judge, refusal_by, earlier, lent_wrong}
 use Rattle.calibrator.proofs.Memories.{record_of, record-back}
 use Rattle.calibrator.proofs.Step.{rule-lawful}
 use Rattle.image_layout.specs.Layout.{newest, image_length, previous_words, header, body, image}
-use Rattle.image.specs.Image.{save_refusal, saved, saved_unless, end_restore, restored, lent_wrong}
-use Rattle.image.specs.declared.Restored.TheVariants.{Config}
+use Rattle.image.specs.Image.{save_refusal, saved, saved_unless, end_restore, restored}
 use Rattle.image.proofs.Round.{restored-saved}
 use Rattle.history.specs.Calls.{ConfigWords}
 
@@ -64,9 +60,9 @@ pub record Holds (c : MicroPriceConfig) (m : Memory Previous) : Type 0 where
 
 -- ---- new, and one quote more
 
-refuses-not : (k : Check) → refuses k ≡ false → k ≡ Fine
-refuses-not Fine e = refl
-refuses-not (Refused r) e = absurd (zero-not-one cc)
+refuses-not : (k : Check) → refuses k ≡ false → k ≡ Ok tt
+refuses-not (Ok _) e = refl
+refuses-not (Err r) e = absurd (zero-not-one cc)
 
 module _ (c : MicroPriceConfig) (v : Valid c) where
   pub new-holds : Holds c (fresh c)
@@ -81,16 +77,16 @@ module _ (c : MicroPriceConfig) (v : Valid c) where
         largest-fits = omega arith;
       }
 
-  pair_size : (p q : TopOfBook) → Accepted c p → Accepted c q → (n : Neighbours) → neighbours_of c p q ≡ n → size_of (event_from n) ≤ 2 * most_half_ticks
-  pair_size p q fp fq (Skipped k) h = omega arith
-  pair_size p q fp fq (Counted e) h =
+  pair_size : (p q : TopOfBook) → Accepted c p → Accepted c q → (n : Result Pair Skip) → neighbours_of c p q ≡ n → size_of (event_from n) ≤ 2 * most_half_ticks
+  pair_size p q fp fq (Err k) h = omega arith
+  pair_size p q fp fq (Ok e) h =
       let k = counted-made c p q e h in
       omega
       (arith, change-size e.mid_from e.mid_to, k.from-mid, k.to-mid, half-ticks-most c p v fp, half-ticks-most c q v fq)
 
   event-size : (l : Previous) (q : TopOfBook) → broken c l ≡ false → Accepted c q → size_of (event_of c l q) ≤ 2 * most_half_ticks
-  event-size Nothing q s f = omega arith
-  event-size (Quoted p) q s f =
+  event-size None q s f = omega arith
+  event-size (Some p) q s f =
       pair_size p q (fine-known c p (refuses-not (check_quote c p) s)) f (neighbours_of c p q) refl
 
   larger : (N : ℕ) (mirror : ℕ → ℕ) (e : Event) (k : Counts) → k.largest < 2 ^ 64 → size_of e ≤ 2 * most_half_ticks → (entered N mirror e k).largest < 2 ^ 64
@@ -108,7 +104,7 @@ module _ (c : MicroPriceConfig) (v : Valid c) where
         ∙ entered-after (rule c).kinds (states c) (rule c).mirror (rule-lawful c v).mirror-below m.counts [] event ((rule-lawful c v).event-in m.last q)
 
     -- an accepted quote keeps it
-    pub step-holds : AllWords (previous_words (Quoted q)) → check_quote c q ≡ Fine → over_limit (step (rule c) m q).counts ≡ false → Holds c (step (rule c) m q)
+    pub step-holds : AllWords (previous_words (Some q)) → check_quote c q ≡ Ok tt → over_limit (step (rule c) m q).counts ≡ false → Holds c (step (rule c) m q)
     step-holds words fine inside =
         record {
           sized =
@@ -134,7 +130,7 @@ module _ (c : MicroPriceConfig) (v : Valid c) where
 
 -- ---- the count check
 
-pub first-all : (f : ℕ → Check) (i k : ℕ) → ((j : ℕ) → j < i + k → f j ≡ Fine) → first_from f i k ≡ Fine
+pub first-all : (f : ℕ → Check) (i k : ℕ) → ((j : ℕ) → j < i + k → f j ≡ Ok tt) → first_from f i k ≡ Ok tt
 first-all f i zero h = refl
 first-all f i (suc k) h = rw (h i (omega arith)) (first-all f (suc i) k (λ j b. h j (omega arith)))
 
@@ -150,7 +146,7 @@ stored-in : (k : Counts) → over_limit k ≡ false → stored_over k ≡ false
 stored-in k e = let w = within-known k e in rw (w.pairs-in, w.skips-in, w.totals-in)
 
 module _ (N : ℕ) (mirror : ℕ → ℕ) (k : Counts) (b : Balanced N mirror k) where
-  state-fine : (i : ℕ) → i < N → check_state N mirror k.tables i ≡ Fine
+  state-fine : (i : ℕ) → i < N → check_state N mirror k.tables i ≡ Ok tt
   state-fine i hi =
       let t : total_mirrored k.tables.totals i (mirror i) ≡ true = rw (b.totals-mirrored i hi) (same-own (neg_ℤ (get_or k.tables.totals i (pos 0)))) in
       let r : row_mirrored N mirror k.tables i ≡ true =
@@ -158,22 +154,22 @@ module _ (N : ℕ) (mirror : ℕ → ℕ) (k : Counts) (b : Balanced N mirror k)
       (λ j b'. let hj : j < N = omega arith in rw (eq-eqb _ _ (sym (b.stay-mirrored i j hi hj))) (eq-eqb _ _ (sym (b.moved-mirrored i j hi hj)))) in
       rw (t, r)
 
-  pub check-fine : over_limit k ≡ false → check_counts N mirror k ≡ Fine
+  pub check-fine : over_limit k ≡ false → check_counts N mirror k ≡ Ok tt
   check-fine e =
       let t : is_twice k.pairs k.tables ≡ true = eq-eqb _ _ b.twice in
       rw (stored-in k e, first-all (check_state N mirror k.tables) 0 N (λ i b'. state-fine i (omega arith)), t)
 
 -- ---- the operations on such a memory
 
-pub first-last : (k : Check) → first_of k Fine ≡ k
-first-last Fine = refl
-first-last (Refused r) = refl
+pub first-last : (k : Check) → first_of k (Ok tt) ≡ k
+first-last (Ok _) = refl
+first-last (Err r) = refl
 
 module _ (c : MicroPriceConfig) (e : valid c ≡ true) (m : Memory Previous) (h : Holds c m) where
   v : Valid c
   v = valid-known c e
 
-  pub memory-fine : check_memory c m ≡ Fine
+  pub memory-fine : check_memory c m ≡ Ok tt
   memory-fine =
       let a = eq-eqb _ _ h.sized.stay-cells in
       let b = eq-eqb _ _ h.sized.moved-cells in
@@ -192,7 +188,7 @@ module _ (c : MicroPriceConfig) (e : valid c ≡ true) (m : Memory Previous) (h 
       rw (memory-fine, h.sound, check-fine (states c) (mirror_of c.imbalance_buckets) m.counts h.balanced h.within)
       (first-last (refuse_if (not (eqb long (image_length newest c))) 7))
 
-  pub save-image : (out : List ℕ) → length out ≡ image_length newest c → saved c m out ≡ saved_unless Fine out (image newest c m)
+  pub save-image : (out : List ℕ) → length out ≡ image_length newest c → saved c m out ≡ saved_unless (Ok tt) out (image newest c m)
   save-image out long =
       ap (λ (k : Check). saved_unless k out (image newest c m))
       (save-first (length out) ∙ ap (λ (t : Bool). refuse_if (not t) 7) (eq-eqb _ _ long))
@@ -276,7 +272,7 @@ module _ (c : MicroPriceConfig) (e : valid c ≡ true) (fits : ConfigWords c) (m
   words-fit = all_append (header newest c m.last m.counts) (body m.counts.tables) header-fits body-fits
 
   -- its image, restored into any memory of the right lengths, gives it back
-  pub image-back : (lent : Memory Previous) → lent_wrong (states c) lent.counts.tables ≡ false → restored (image newest c m) lent ≡ end_restore (Config c) m
+  pub image-back : (lent : Memory Previous) → lent_wrong (states c) lent.counts.tables ≡ false → restored (image newest c m) lent ≡ end_restore (Ok c) m
   image-back lent sizes =
       let out : List ℕ = replicate (image_length newest c) 0 in
       let is = record-back c m h.sized.skip-kinds in
@@ -288,4 +284,4 @@ module _ (c : MicroPriceConfig) (e : valid c ≡ true) (fits : ConfigWords c) (m
       (ap (λ (x : Memory Previous). (saved c x out).answer) is ∙ ap (λ x. x.answer) k) in
       sym (ap (λ (x : Memory Previous). restored (saved c x out).output lent) is ∙ ap (λ x. restored x.output lent) k)
       ∙ round
-      ∙ ap (end_restore (Config c)) is
+      ∙ ap (end_restore (Ok c)) is

@@ -9,7 +9,6 @@ use lib.ListN.{replicate}
 use Rattle.basics.specs.Lists.{sum}
 use Rattle.image_words.proofs.Words.{words-by}
 use Rattle.refusals.specs.Refusals.{refusal}
-use Rattle.refusals.specs.declared.Check.TheVariants as Check
 use Rattle.refusals.specs.declared.Refusal.TheVariants.{SliceLength}
 use Rattle.config.specs.Configuration.{new_config, with_max_quote_gap_ms, config_words}
 use Rattle.config.specs.declared.MicroPriceConfig.{MicroPriceConfig}
@@ -17,13 +16,11 @@ use Rattle.quotes.specs.declared.TopOfBook.{TopOfBook}
 use Rattle.tally.specs.Entries.{tables}
 use Rattle.tally.specs.Events.{zeros}
 use Rattle.tally.specs.Rules.{Memory}
-use Rattle.calibrator.specs.Record.{kinds}
+use Rattle.calibrator.specs.Record.{kinds, Previous}
 use Rattle.calibrator.specs.Observe.{fresh}
-use Rattle.calibrator.specs.declared.Previous.{Previous}
-use Rattle.calibrator.specs.declared.Previous.TheVariants.{Nothing, Quoted}
+use Rattle.std.specs.Prelude.{Some, None, Ok, Err}
 use Rattle.image_layout.specs.Layout.{newest, header, header_in, image_length, image, previous_words}
 use Rattle.image.specs.Image.{end_save}
-use Rattle.image.specs.declared.Restored.TheVariants as Restored
 use Rattle.history.specs.Calls.{Call, quote, save, restore, observes, saves, restores, run, History, begins, new_history, gains, history_memory, new_past, OwnImages, ConfigWords}
 use Rattle.history.specs.Demand.{history_of, Demand3}
 use Rattle.history.proofs.Demand.{demand-3}
@@ -60,7 +57,7 @@ empty-output = replicate (image_length newest three-states) 0
 abbrev pub sevens : Memory Previous
 sevens =
     record {
-      last = Quoted (record { timestamp_ms = 7; bid = 7; ask = 7; bid_size = 7; ask_size = 7 });
+      last = Some (record { timestamp_ms = 7; bid = 7; ask = 7; bid_size = 7; ask_size = 7 });
       counts =
           record {
             pairs = 7;
@@ -72,7 +69,7 @@ sevens =
 
 -- tables of two states: wrong lengths
 abbrev pub two-states : Memory Previous
-two-states = record { last = Nothing; counts = zeros kinds 2 }
+two-states = record { last = None; counts = zeros kinds 2 }
 
 -- new and the first history are saved; new is restored, and the second history is gained
 abbrev pub before-second-save : List Call
@@ -109,17 +106,17 @@ second-is-back = refl
 
 -- what the operations answer; the third save writes what the second wrote
 pub answers-are : (run three-states (fresh three-states) returning-calls).answers ≡
-    (saves (end_save Check.Fine empty-image) ∷
-    observes Check.Fine ∷
-    observes Check.Fine ∷
-    saves (end_save Check.Fine first-image) ∷
-    restores (Restored.Config three-states) ∷
-    observes Check.Fine ∷
-    observes Check.Fine ∷
-    saves (end_save Check.Fine first-image) ∷
+    (saves (end_save (Ok tt) empty-image) ∷
+    observes (Ok tt) ∷
+    observes (Ok tt) ∷
+    saves (end_save (Ok tt) first-image) ∷
+    restores (Ok three-states) ∷
+    observes (Ok tt) ∷
+    observes (Ok tt) ∷
+    saves (end_save (Ok tt) first-image) ∷
     saves (end_save (refusal 7) []) ∷
-    restores (Restored.Refused SliceLength) ∷
-    restores (Restored.Config three-states) ∷
+    restores (Err SliceLength) ∷
+    restores (Ok three-states) ∷
     [])
 unfolding header header_in
 answers-are = refl
@@ -132,9 +129,9 @@ returning-words = words-by (config_words three-states) refl
 pub returning-own : OwnImages three-states (new_past three-states) returning-calls
 unfolding header header_in
 returning-own =
-    let five = words-by (previous_words (Quoted (even-quote 0 5))) refl in
-    let six = words-by (previous_words (Quoted (even-quote 0 6))) refl in
-    let last = words-by (previous_words (Quoted (even-quote 1 5))) refl in
+    let five = words-by (previous_words (Some (even-quote 0 5))) refl in
+    let six = words-by (previous_words (Some (even-quote 0 6))) refl in
+    let last = words-by (previous_words (Some (even-quote 1 5))) refl in
     (tt, (five, (last, (tt, (tt, (six, (last, (tt, (tt, (tt, (tt, tt)))))))))))
 
 pub returning-demand : Demand3 three-states returning-calls

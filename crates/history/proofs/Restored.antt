@@ -14,9 +14,8 @@ use Rattle.basics.specs.Domain.{counter_limit, cell_limit}
 use Rattle.image_words.specs.Words.{words_of, untwos, AllBytes, AllWords}
 use Rattle.image_words.proofs.Laws.{length-words}
 use Rattle.image_words.proofs.Round.{bytes_drop, words-fit}
-use Rattle.refusals.specs.Refusals.{refuse_if, first_of, first_from}
-use Rattle.refusals.specs.declared.Check.{Check}
-use Rattle.refusals.specs.declared.Check.TheVariants.{Fine, Refused}
+use Rattle.refusals.specs.Refusals.{refuse_if, first_of, first_from, Check}
+use Rattle.std.specs.Prelude.{Some, None, Ok, Err}
 use Rattle.refusals.proofs.Refusals.{if-fine, first_fine, from-fine}
 use Rattle.config.specs.Configuration.{states}
 use Rattle.config.specs.declared.MicroPriceConfig.{MicroPriceConfig}
@@ -28,12 +27,9 @@ use Rattle.tally.specs.Limits.{over_counter, over_limit}
 use Rattle.tally.specs.Rules.{Memory}
 use Rattle.count_check.specs.Mirrors.{same_total, stored_over, total_mirrored, cells_alike, cell_mirrored, row_mirrored, check_state, is_twice, check_counts}
 use Rattle.count_check.proofs.Walks.{all-at}
-use Rattle.calibrator.specs.Record.{kinds}
-use Rattle.calibrator.specs.declared.Previous.{Previous}
-use Rattle.calibrator.specs.declared.Previous.TheVariants.{Nothing, Quoted}
+use Rattle.calibrator.specs.Record.{kinds, Previous}
 use Rattle.image_layout.specs.Layout.{oldest, header_length, word, previous_words, form_in, quote_in, previous_in, config_in, memory_in}
 use Rattle.image.specs.Image.{taken_unless, restored, restore_refusal}
-use Rattle.image.specs.declared.Restored.TheVariants as Restored
 use Rattle.image.proofs.Judged.{Restorable, restore-known}
 use Rattle.history.proofs.Holds.{Holds}
 
@@ -50,7 +46,7 @@ cells_in : (l : List ℕ) → sum l ≤ cell_limit → any over_cell l ≡ false
 cells_in [] h = refl
 cells_in (x ∷ l) h = rw (le-ltb cell_limit x (omega arith)) (cells_in l (omega arith))
 
-module _ (N : ℕ) (mirror : ℕ → ℕ) (k : Counts) (fine : check_counts N mirror k ≡ Fine) where
+module _ (N : ℕ) (mirror : ℕ → ℕ) (k : Counts) (fine : check_counts N mirror k ≡ Ok tt) where
   abbrev walk : Check
   walk = first_from (check_state N mirror k.tables) 0 N
 
@@ -60,14 +56,14 @@ module _ (N : ℕ) (mirror : ℕ → ℕ) (k : Counts) (fine : check_counts N mi
   stored : stored_over k ≡ false
   stored = if-fine (stored_over k) 6 refl (first_fine (refuse_if (stored_over k) 6) (first_of walk (refuse_if (not twice) 11)) fine).0
 
-  rest : (walk ≡ Fine) × (refuse_if (not twice) 11 ≡ Fine)
+  rest : (walk ≡ Ok tt) × (refuse_if (not twice) 11 ≡ Ok tt)
   rest = first_fine walk (refuse_if (not twice) 11) (first_fine (refuse_if (stored_over k) 6) (first_of walk (refuse_if (not twice) 11)) fine).1
 
   cells-twice : sum k.tables.stay + sum k.tables.moved ≡ 2 * k.pairs
   cells-twice = eqb-true _ _ (not-false twice (if-fine (not twice) 11 refl rest.1))
 
   module _ (i : ℕ) (h : i < N) where
-    state : (refuse_if (not (total_mirrored k.tables.totals i (mirror i))) 9 ≡ Fine) × (refuse_if (not (row_mirrored N mirror k.tables i)) 10 ≡ Fine)
+    state : (refuse_if (not (total_mirrored k.tables.totals i (mirror i))) 9 ≡ Ok tt) × (refuse_if (not (row_mirrored N mirror k.tables i)) 10 ≡ Ok tt)
     state =
         first_fine (refuse_if (not (total_mirrored k.tables.totals i (mirror i))) 9) (refuse_if (not (row_mirrored N mirror k.tables i)) 10)
         (from-fine (check_state N mirror k.tables) 0 N rest.0 i (omega arith) (omega arith))
@@ -116,7 +112,7 @@ module _ (b : List ℕ) (bytes : AllBytes b) (there : header_length oldest ≤ l
       w : (k : ℕ) → k < oldest → word b k < 2 ^ 64
       w = word_fits
 
-      go : (t : Bool) → AllWords (previous_words (cond t (Quoted (quote_in b)) Nothing))
+      go : (t : Bool) → AllWords (previous_words (cond t (Some (quote_in b)) None))
       go true = (omega arith, (w 10 (omega arith), (w 11 (omega arith), (w 12 (omega arith), (w 13 (omega arith), (w 14 (omega arith), tt))))))
       go false = (omega arith, (omega arith, (omega arith, (omega arith, (omega arith, (omega arith, tt))))))
 
@@ -146,12 +142,12 @@ held-holds form b t bytes k =
       largest-fits = word_fits b bytes k.header-there 18 (omega arith);
     }
 
-taken-known : (k : Check) (b : List ℕ) (m : Memory Previous) (c : MicroPriceConfig) → (taken_unless k b m).answer ≡ Restored.Config c
-    → (k ≡ Fine) × (config_in (form_in b) b ≡ c) × (memory_in (form_in b) b ≡ (taken_unless k b m).left)
-taken-known Fine b m c e = (refl, cc, refl)
-taken-known (Refused r) b m c e = absurd (zero-not-one cc)
+taken-known : (k : Check) (b : List ℕ) (m : Memory Previous) (c : MicroPriceConfig) → (taken_unless k b m).answer ≡ Ok c
+    → (k ≡ Ok tt) × (config_in (form_in b) b ≡ c) × (memory_in (form_in b) b ≡ (taken_unless k b m).left)
+taken-known (Ok _) b m c e = (refl, cc, refl)
+taken-known (Err r) b m c e = absurd (zero-not-one cc)
 
-module _ (b : List ℕ) (bytes : AllBytes b) (m : Memory Previous) (c : MicroPriceConfig) (e : (restored b m).answer ≡ Restored.Config c) where
+module _ (b : List ℕ) (bytes : AllBytes b) (m : Memory Previous) (c : MicroPriceConfig) (e : (restored b m).answer ≡ Ok c) where
   pub restored-holds : Holds c (restored b m).left
   restored-holds =
       let f = taken-known (restore_refusal b m.counts.tables) b m c e in

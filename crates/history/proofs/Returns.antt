@@ -9,15 +9,15 @@ use borrow.Author.Tests.{eq-eqb}
 use Rattle.basics.specs.Lists.{any, same_words}
 use Rattle.basics.proofs.Lists.{same_self}
 use Rattle.basics.proofs.Tests.{neither}
-use Rattle.refusals.specs.Refusals.{refuse_if}
-use Rattle.refusals.specs.declared.Check.{Check}
-use Rattle.refusals.specs.declared.Check.TheVariants.{Fine, Refused}
+use Rattle.refusals.specs.Refusals.{refuse_if, Check}
+use Rattle.std.specs.Prelude.{Ok, Err}
 use Rattle.config.specs.Configuration.{states}
 use Rattle.config.specs.declared.MicroPriceConfig.{MicroPriceConfig}
 use Rattle.tally.specs.Rules.{Memory}
-use Rattle.calibrator.specs.declared.Previous.{Previous}
+use Rattle.calibrator.specs.Record.{Previous}
+use Rattle.calibrator.specs.Observe.{lent_wrong}
 use Rattle.image_layout.specs.Layout.{newest, image_length, image}
-use Rattle.image.specs.Image.{restored, lent_wrong}
+use Rattle.image.specs.Image.{restored}
 use Rattle.history.specs.Calls.{Call, quote, save, restore, History, gains, history_memory, history_refusal, Past, or_else, kept_with, returns, history_quote, history_save, history_restore, check_output_length, history_act, history_run}
 use Rattle.history.specs.Demand.{wrote}
 
@@ -44,16 +44,16 @@ module _ (c : MicroPriceConfig) (b : List ℕ) where
   call-leaves P H kept (quote q) other = go (history_refusal c P.now q)
     where
       go : (k : Check) → KeptLast (history_quote k P (gains P.now q)).past H
-      go Fine = kept
-      go (Refused r) = kept
+      go (Ok _) = kept
+      go (Err r) = kept
   call-leaves P H kept (save out) other = go (check_output_length c out) other
     where
       written : List ℕ
       written = image newest c (history_memory c P.now)
 
       go : (k : Check) → wrote b (history_save k P out written).answer ≡ false → KeptLast (history_save k P out written).past H
-      go Fine differs = ap (λ (t : Bool). or_else t P.now (kept_with b P.kept)) differs ∙ kept
-      go (Refused r) differs = kept
+      go (Ok _) differs = ap (λ (t : Bool). or_else t P.now (kept_with b P.kept)) differs ∙ kept
+      go (Err r) differs = kept
   call-leaves P H kept (restore d lent) other = go (lent_wrong (states c) lent.counts.tables) (returns c P d)
     where
       go : (w : Bool) (o : Option History) → KeptLast (history_restore c P (restored d lent).answer w o).past H

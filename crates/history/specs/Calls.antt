@@ -1,10 +1,9 @@
 -- Lists of quotes, saves and restores on a new calibrator: document 01, "The history".
-use Rattle.std.specs.Prelude.{ℕ, Bool, true, false, not, ◌&&◌, ◌||◌, List, [], ◌∷◌, ◌++◌, T, eqb, length}
+use Rattle.std.specs.Prelude.{ℕ, Bool, true, false, not, ◌&&◌, ◌||◌, List, [], ◌∷◌, ◌++◌, T, eqb, length, Some, None, Result, Ok, Err}
 use Rattle.std.proofs.Math.Option.{Option, none, some}
 use Rattle.basics.specs.Lists.{same_words}
-use Rattle.refusals.specs.Refusals.{refuse_if, first_of}
-use Rattle.refusals.specs.declared.Check.{Check}
-use Rattle.refusals.specs.declared.Check.TheVariants.{Fine, Refused}
+use Rattle.refusals.specs.Refusals.{refuse_if, first_of, Check}
+use Rattle.refusals.specs.declared.Refusal.{Refusal}
 use Rattle.config.specs.Configuration.{states, config_words}
 use Rattle.config.specs.declared.MicroPriceConfig.{MicroPriceConfig}
 use Rattle.quotes.specs.Quotes.{check_quote}
@@ -12,13 +11,11 @@ use Rattle.quotes.specs.declared.TopOfBook.{TopOfBook}
 use Rattle.tally.specs.Events.{Counts}
 use Rattle.tally.specs.Limits.{over_limit}
 use Rattle.tally.specs.Rules.{Memory, memory_of}
-use Rattle.calibrator.specs.Observe.{rule, fresh, earlier, observed}
-use Rattle.calibrator.specs.declared.Previous.{Previous}
-use Rattle.calibrator.specs.declared.Previous.TheVariants.{Nothing, Quoted}
+use Rattle.calibrator.specs.Observe.{rule, fresh, earlier, observed, lent_wrong}
+use Rattle.calibrator.specs.Record.{Previous}
 use Rattle.image_words.specs.Words.{AllWords}
 use Rattle.image_layout.specs.Layout.{newest, image_length, image, previous_words}
-use Rattle.image.specs.Image.{Saved, saved, saved_unless, restored, lent_wrong}
-use Rattle.image.specs.declared.Restored.{Restored}
+use Rattle.image.specs.Image.{Saved, saved, saved_unless, restored}
 
 -- a save lends an output; a restore lends bytes, and the record and tables to fill
 pub data Call : Type 0 where
@@ -30,7 +27,7 @@ pub data Call : Type 0 where
 pub data Answer : Type 0 where
   observes : Check → Answer
   saves : Saved → Answer
-  restores : Restored → Answer
+  restores : Result MicroPriceConfig Refusal → Answer
 
 -- ---- the operations on memory
 
@@ -42,9 +39,9 @@ abbrev pub acted : Answer → Memory Previous → Acted
 acted a m = record { answer = a; left = m }
 
 -- memory that a restore fills is the calibrator's from then on
-abbrev pub after_restore : Restored → Memory Previous → Memory Previous → Memory Previous
-after_restore (Restored.Config c) m filled = filled
-after_restore (Restored.Refused r) m filled = m
+abbrev pub after_restore : Result MicroPriceConfig Refusal → Memory Previous → Memory Previous → Memory Previous
+after_restore (Ok c) m filled = filled
+after_restore (Err r) m filled = m
 
 abbrev pub act : MicroPriceConfig → Memory Previous → Call → Acted
 act c m (quote q) = let o = observed c m q in acted (observes o.answer) o.left
@@ -73,8 +70,8 @@ pub record History : Type 0 where
 
 -- none, or the one quote
 abbrev pub previous_quotes : Previous → List TopOfBook
-previous_quotes Nothing = []
-previous_quotes (Quoted q) = q ∷ []
+previous_quotes None = []
+previous_quotes (Some q) = q ∷ []
 
 -- the history that begins at a memory: it starts from the memory's counts, and the last quote, if any, is its first
 abbrev pub begins : Memory Previous → History
@@ -89,7 +86,7 @@ gains H q = record { start = H.start; quotes = H.quotes ++ q ∷ [] }
 
 -- its last quote, counters and tables
 abbrev pub history_memory : MicroPriceConfig → History → Memory Previous
-history_memory c H = memory_of (rule c) Nothing H.start H.quotes
+history_memory c H = memory_of (rule c) None H.start H.quotes
 
 -- 2, 3, 4, 5 (against its last), 6 (the history with the quote passes a limit)
 abbrev pub history_refusal : MicroPriceConfig → History → TopOfBook → Check
@@ -136,19 +133,19 @@ abbrev pub history_acted : Answer → Past → HistoryActed
 history_acted a P = record { answer = a; past = P }
 
 abbrev pub history_quote : Check → Past → History → HistoryActed
-history_quote Fine P H = history_acted (observes Fine) (becomes P H)
-history_quote (Refused r) P H = history_acted (observes (Refused r)) P
+history_quote (Ok _) P H = history_acted (observes (Ok tt)) (becomes P H)
+history_quote (Err r) P H = history_acted (observes (Err r)) P
 
 -- 7, or the history's image is written and kept
 abbrev pub history_save : Check → Past → List ℕ → List ℕ → HistoryActed
-history_save Fine P out b = history_acted (saves (saved_unless Fine out b)) (keeps P b)
-history_save (Refused r) P out b = history_acted (saves (saved_unless (Refused r) out b)) P
+history_save (Ok _) P out b = history_acted (saves (saved_unless (Ok tt) out b)) (keeps P b)
+history_save (Err r) P out b = history_acted (saves (saved_unless (Err r) out b)) P
 
 -- a kept image, into memory of the right lengths, brings its history back; another restore is refused
-abbrev pub history_restore : MicroPriceConfig → Past → Restored → Bool → Option History → HistoryActed
+abbrev pub history_restore : MicroPriceConfig → Past → Result MicroPriceConfig Refusal → Bool → Option History → HistoryActed
 history_restore c P a true o = history_acted (restores a) P
 history_restore c P a false none = history_acted (restores a) P
-history_restore c P a false (some H) = history_acted (restores (Restored.Config c)) (becomes P H)
+history_restore c P a false (some H) = history_acted (restores (Ok c)) (becomes P H)
 
 abbrev pub check_output_length : MicroPriceConfig → List ℕ → Check
 check_output_length c out = refuse_if (not (eqb (length out) (image_length newest c))) 7
@@ -176,13 +173,13 @@ abbrev pub is_some : Option History → Bool
 is_some none = false
 is_some (some H) = true
 
-abbrev pub is_refused : Restored → Bool
-is_refused (Restored.Config c) = false
-is_refused (Restored.Refused r) = true
+abbrev pub is_refused : Result MicroPriceConfig Refusal → Bool
+is_refused (Ok c) = false
+is_refused (Err r) = true
 
 -- each restore is of a kept image into memory of the right lengths, or is one that restore refuses; a quote's words are words
 abbrev pub Proper : MicroPriceConfig → Past → Call → Type 0
-Proper c P (quote q) = AllWords (previous_words (Quoted q))
+Proper c P (quote q) = AllWords (previous_words (Some q))
 Proper c P (save out) = Unit {0}
 Proper c P (restore b lent) =
     T ((not (lent_wrong (states c) lent.counts.tables) && is_some (returns c P b)) || is_refused (restored b lent).answer)

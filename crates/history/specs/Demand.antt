@@ -1,7 +1,6 @@
 -- Demand 3, of one configuration and one list of calls: document 01, "The history".
-use Rattle.std.specs.Prelude.{ℕ, ◌+◌, ◌-◌, ◌<◌, max, ◌≡◌, Bool, false, not, ◌&&◌, List, [], ◌∷◌, ◌++◌, pos, ◌+ℤ◌, length, get_or}
+use Rattle.std.specs.Prelude.{ℕ, ◌+◌, ◌-◌, ◌<◌, max, ◌≡◌, Bool, false, not, ◌&&◌, List, [], ◌∷◌, ◌++◌, pos, ◌+ℤ◌, length, get_or, Some, None, Ok}
 use Rattle.basics.specs.Lists.{any, count, greatest, sum, tab, cell_at, same_words}
-use Rattle.refusals.specs.declared.Check.TheVariants.{Fine}
 use Rattle.config.specs.Configuration.{states}
 use Rattle.config.specs.declared.MicroPriceConfig.{MicroPriceConfig}
 use Rattle.quotes.specs.States.{mirror_of}
@@ -10,11 +9,10 @@ use Rattle.tally.specs.Entries.{Entry}
 use Rattle.tally.specs.Events.{Event, Counts, entries, stay_at, moved_at, total_at, is_pair, is_skip, size_of}
 use Rattle.tally.specs.Rules.{Memory, events}
 use Rattle.tally.specs.Balance.{Balanced}
-use Rattle.calibrator.specs.Observe.{rule, fresh, observed, refuses}
-use Rattle.calibrator.specs.declared.Previous.{Previous}
-use Rattle.calibrator.specs.declared.Previous.TheVariants.{Nothing, Quoted}
+use Rattle.calibrator.specs.Observe.{rule, fresh, observed, refuses, lent_wrong}
+use Rattle.calibrator.specs.Record.{Previous}
 use Rattle.image_layout.specs.Layout.{newest, image_length, image}
-use Rattle.image.specs.Image.{saved, end_save, lent_wrong}
+use Rattle.image.specs.Image.{saved, end_save}
 use Rattle.history.specs.Calls.{Call, save, restore, Answer, observes, saves, restores, run, History, history_memory, history_refusal, new_past, history_run}
 
 -- what the operations leave after the list, and the history after it
@@ -30,15 +28,15 @@ start_of c ks = (history_of c ks).start
 
 -- its neighbours, and its counted pairs, each followed by its mirror
 abbrev pub neighbours_in : MicroPriceConfig → History → List Event
-neighbours_in c H = events (rule c) Nothing H.quotes
+neighbours_in c H = events (rule c) None H.quotes
 
 abbrev pub flow : MicroPriceConfig → History → List Entry
 flow c H = entries (rule c).mirror (neighbours_in c H)
 
 -- the last quote of a list, if any
 abbrev pub last_of : List TopOfBook → Previous
-last_of [] = Nothing
-last_of (q ∷ []) = Quoted q
+last_of [] = None
+last_of (q ∷ []) = Some q
 last_of (q ∷ r ∷ qs) = last_of (r ∷ qs)
 
 -- whether a call was a save that was not refused and wrote these bytes
@@ -74,7 +72,7 @@ pub record Demand3 (c : MicroPriceConfig) (ks : List Call) : Type 0 where
   pub quote-refused : (q : TopOfBook) → (observed c (left c ks) q).answer ≡ history_refusal c (history_of c ks) q
   -- a save after the list, with an output of the image's length, is not refused
   pub save-fine : (out : List ℕ) → length out ≡ image_length newest c
-      → saved c (left c ks) out ≡ end_save Fine (image newest c (history_memory c (history_of c ks)))
+      → saved c (left c ks) out ≡ end_save (Ok tt) (image newest c (history_memory c (history_of c ks)))
   -- after a save that writes b, calls of which no save writes b again, and a restore of b into memory of the right lengths, the history is that at the save
   pub restore-returns : (before : List Call) (out : List ℕ) (js : List Call) (b : List ℕ) (lent : Memory Previous)
       → ks ≡ before ++ (save out ∷ (js ++ (restore b lent ∷ [])))

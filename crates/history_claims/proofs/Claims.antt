@@ -9,8 +9,8 @@ use borrow.Author.Tests.{eq-eqb}
 use lib.ListN.{length}
 use lib.Ieee.{Float, eq}
 use Rattle.floats.specs.Floats.{pos_zero}
-use Rattle.refusals.specs.Refusals.{number_of, refusal, refuse_if, first_of, check_number}
-use Rattle.refusals.specs.declared.Check.{Check}
+use Rattle.refusals.specs.Refusals.{number_of, refusal, refuse_if, first_of, check_number, Check}
+use Rattle.std.specs.Prelude.{Ok, Err}
 use Rattle.refusals.specs.declared.Refusal.{Refusal}
 use Rattle.refusals.specs.declared.Refusal.TheVariants.{ModelRow}
 use Rattle.config.specs.Configuration.{states, valid}
@@ -20,7 +20,7 @@ use Rattle.quotes.specs.States.{mirror_of}
 use Rattle.quotes.specs.declared.TopOfBook.{TopOfBook}
 use Rattle.quotes.proofs.States.{state-located}
 use Rattle.tally.specs.Rules.{Memory}
-use Rattle.calibrator.specs.declared.Previous.{Previous}
+use Rattle.calibrator.specs.Record.{Previous}
 use Rattle.history.specs.Calls.{Call, run, new_past, OwnImages, ConfigWords}
 use Rattle.history.specs.Demand.{left}
 use Rattle.history.proofs.Claim.{list-claim, empty-is, starts-new}
@@ -34,7 +34,6 @@ use Rattle.fit.proofs.Models.{fit-valid, table-long, fit_written, fit-mirrors, c
 use Rattle.model_check.specs.Check.{check_row, check_model}
 use Rattle.model_signals.specs.Claims.{RowsMirror, AnswersMirror}
 use Rattle.model_signals.specs.Signal.{signal_of}
-use Rattle.model_signals.specs.declared.Signalled.TheVariants.{Refused}
 use Rattle.model_signals.proofs.Checked.{all-served}
 use Rattle.model_signals.proofs.Exchanged.{signal-exchanged}
 use Rattle.model_signals.proofs.Within.{signal-within}
@@ -44,7 +43,7 @@ use Rattle.history_claims.proofs.Rules.{row-serves, row-checked}
 -- ---- a fitted model
 
 -- of any memory
-module _ (c : MicroPriceConfig) (m : Memory Previous) (t₀ : List ℕ) (l : List Float) (fine : (fit_counts c m t₀ l).answer ≡ Check.Fine) where
+module _ (c : MicroPriceConfig) (m : Memory Previous) (t₀ : List ℕ) (l : List Float) (fine : (fit_counts c m t₀ l).answer ≡ Ok tt) where
   abbrev t : List ℕ
   t = (fit_counts c m t₀ l).model
 
@@ -57,7 +56,7 @@ module _ (c : MicroPriceConfig) (m : Memory Previous) (t₀ : List ℕ) (l : Lis
   row_of : (i : ℕ) → i < states c → RowOf c i (row_at t i)
   row_of = (fit_written 10000 10 c m t₀ l fine).row_of
 
-  served : (q : TopOfBook) (i : ℕ) → signal_of c t q ≡ Refused (ModelRow i) → ⊥
+  served : (q : TopOfBook) (i : ℕ) → signal_of c t q ≡ Err (ModelRow i) → ⊥
   served = all-served c t (λ i h. row-serves c i (row_at t i) (row_of i h) (inside i h))
 
   signals-mirror : (q : TopOfBook) → AnswersMirror (signal_of c t q) (signal_of c t (exchanged q))
@@ -70,10 +69,10 @@ module _ (c : MicroPriceConfig) (m : Memory Previous) (t₀ : List ℕ) (l : Lis
       (record { status-same = sym o.status-same; sum-zero = o.final-opposite.sum-zero }))
 
   checked : ((i : ℕ) → i < states c → ((row_at t i).status ≡ 1) ⊎ ((row_at t i).status ≡ 2) → eq (row_at t i).adjustment pos_zero ≡ true)
-      → check_model c t ≡ Check.Fine
+      → check_model c t ≡ Ok tt
   checked rest =
-      let row : (i : ℕ) → i < states c → check_row c t i ≡ Check.Fine =
-      λ i h. ap (λ (b : Bool). cond b Check.Fine (Check.Refused (ModelRow i)))
+      let row : (i : ℕ) → i < states c → check_row c t i ≡ Ok tt =
+      λ i h. ap (λ (b : Bool). cond b (Ok tt) (Err (ModelRow i)))
       (row-checked c i (row_at t i) (row_of i h) (inside i h) (row_at t (mirror_of c.imbalance_buckets i)) (row-held t i) (mirrored i h) (rest i h)) in
       λ d.
       first_of (refuse_if (not (fit-valid 10000 10 c m t₀ l fine d)) 1)
@@ -105,24 +104,20 @@ module _ (c : MicroPriceConfig) (e : valid c ≡ true) (fits : ConfigWords c) (k
       (check-fine (states c) (mirror_of c.imbalance_buckets) (left c ks).counts left-holds.balanced left-holds.within d)))
       ∙ first-last (refuse_if (wrong_fit_lengths (states c) scratch model) 7)
 
-  pub numbers_after : (t : List ℕ) (l : List Float) (r : Refusal) → (fit_counts c (left c ks) t l).answer ≡ Check.Refused r
+  pub numbers_after : (t : List ℕ) (l : List Float) (r : Refusal) → (fit_counts c (left c ks) t l).answer ≡ Err r
       → (number_of r ≡ 7) ⊎ ((16 ≤ number_of r) × (number_of r ≤ 19))
   numbers_after t l r a = go (wrong_fit_lengths (states c) (length l) (length t)) (fit-after (length l) (length t))
     where
       go : (b : Bool) → fit_refusal c (left c ks) (length l) (length t) ≡ refuse_if b 7 → (number_of r ≡ 7) ⊎ ((16 ≤ number_of r) × (number_of r ≤ 19))
       go true f =
-          let k : refusal 7 ≡ Check.Refused r =
+          let k : refusal 7 ≡ Err r =
           ap (λ (x : Check). (fit_unless x (states c) (fit_of 10000 10 (given_of c (left c ks).counts)) t l).answer) (sym f) ∙ a in
           inl (ap check_number (sym k))
       go false f = inr (fit-numbers 10000 10 c (left c ks) t l r f a)
 
   -- demand 3, its last sentence
-  pub model-after : (t : List ℕ) (l : List Float) → (fit_counts c (left c ks) t l).answer ≡ Check.Fine → Model c (fit_counts c (left c ks) t l).model
+  pub model-after : (t : List ℕ) (l : List Float) → (fit_counts c (left c ks) t l).answer ≡ Ok tt → Model c (fit_counts c (left c ks) t l).model
   model-after t l fine = model-fitted c (left c ks) t l fine
-
-  pub signal-after : (t : List ℕ) (l : List Float) → (fit_counts c (left c ks) t l).answer ≡ Check.Fine → (q : TopOfBook) (i : ℕ)
-      → signal_of c (fit_counts c (left c ks) t l).model q ≡ Refused (ModelRow i) → ⊥
-  signal-after t l fine = (model-after t l fine).served
 
   -- demand 3
   pub demand-3-whole : Demand3Whole c ks

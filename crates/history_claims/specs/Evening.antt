@@ -1,15 +1,14 @@
 -- An evening's counts are its history's: document 01, "An evening's calibration" and "The history".
-use Rattle.std.specs.Prelude.{ℕ, ◌≤◌, ◌≡◌, Bool, true, List, [], ◌∷◌, ◌++◌, map, eqb, Float}
+use Rattle.std.specs.Prelude.{ℕ, ◌≤◌, ◌≡◌, Bool, true, List, [], ◌∷◌, ◌++◌, map, eqb, Float, Ok, Err}
 use Rattle.basics.specs.Lists.{any, count}
 use Rattle.refusals.specs.Refusals.{number_of}
-use Rattle.refusals.specs.declared.Check.TheVariants as Check
 use Rattle.refusals.specs.declared.Refusal.{Refusal}
 use Rattle.config.specs.declared.MicroPriceConfig.{MicroPriceConfig}
 use Rattle.quotes.specs.declared.TopOfBook.{TopOfBook}
 use Rattle.tally.specs.Limits.{over_limit}
 use Rattle.tally.specs.Rules.{Memory}
 use Rattle.calibrator.specs.Observe.{fresh}
-use Rattle.calibrator.specs.declared.Previous.{Previous}
+use Rattle.calibrator.specs.Record.{Previous}
 use Rattle.recording.specs.Recording.{quotes_of, filter}
 use Rattle.recording.specs.Window.{inside}
 use Rattle.recording.specs.Observe.{unusable, usable}
@@ -18,7 +17,6 @@ use Rattle.history.specs.Demand.{left, history_of}
 use Rattle.fit.specs.Fit.{end_fit, fit_counts}
 use Rattle.evening.specs.Evening.{EveningOutcome, end_evening}
 use Rattle.evening.specs.declared.Counted.{Counted}
-use Rattle.evening.specs.declared.Evening.TheVariants.{Fitted, Refused}
 use Rattle.history_claims.specs.Models.{Model, Demand3Whole}
 
 -- the recording's quotes inside the window
@@ -51,8 +49,8 @@ pub record FittedEvening (c : MicroPriceConfig) (qs : List TopOfBook) (t : List 
   -- the answer, the model table and scratch are those of a fit of the history
   pub fit_is : end_fit d.answer o.model o.scratch ≡ fit_counts c (history_memory c (history_of c (calls_of qs))) t l
   -- a refusal of that fit is one of 16 to 19; where nothing is refused the table is a model
-  pub fit-numbers : (r : Refusal) → d.answer ≡ Check.Refused r → (16 ≤ number_of r) × (number_of r ≤ 19)
-  pub model : d.answer ≡ Check.Fine → Model c o.model
+  pub fit-numbers : (r : Refusal) → d.answer ≡ Err r → (16 ≤ number_of r) × (number_of r ≤ 19)
+  pub model : d.answer ≡ Ok tt → Model c o.model
 
 -- a quote of qs that the history of those before it refuses by r, where no quote before it is refused but by 3 and 4
 pub record StoppedAt (c : MicroPriceConfig) (qs : List TopOfBook) (r : Refusal) : Type 0 where
@@ -61,7 +59,7 @@ pub record StoppedAt (c : MicroPriceConfig) (qs : List TopOfBook) (r : Refusal) 
   pub later : List TopOfBook
   pub quotes-are : qs ≡ earlier ++ here ∷ later
   pub history-is : history_of c (calls_of earlier) ≡ accepted_of c earlier
-  pub refused : history_refusal c (accepted_of c earlier) here ≡ Check.Refused r
+  pub refused : history_refusal c (accepted_of c earlier) here ≡ Err r
   -- 6: with it the history passes a limit
   pub limit-passed : number_of r ≡ 6 → over_limit (history_memory c (gains (accepted_of c earlier) here)).counts ≡ true
 
@@ -70,11 +68,11 @@ pub record RefusedEvening (c : MicroPriceConfig) (m : Memory Previous) (qs : Lis
     (r : Refusal) : Type 0 where
   pub number : one_of (7 ∷ 14 ∷ 15 ∷ 1 ∷ 2 ∷ 6 ∷ []) r ≡ true
   -- 7, 14, 15, 1: no lent memory is changed
-  pub unchanged : one_of (7 ∷ 14 ∷ 15 ∷ 1 ∷ []) r ≡ true → o ≡ end_evening (Refused r) m t l
+  pub unchanged : one_of (7 ∷ 14 ∷ 15 ∷ 1 ∷ []) r ≡ true → o ≡ end_evening (Err r) m t l
   -- 2, 6: at a quote, with count tables and counters zero and no last quote, and the other slices unchanged
-  pub stopped : one_of (2 ∷ 6 ∷ []) r ≡ true → (o ≡ end_evening (Refused r) (fresh c) t l) × StoppedAt c qs r
+  pub stopped : one_of (2 ∷ 6 ∷ []) r ≡ true → (o ≡ end_evening (Err r) (fresh c) t l) × StoppedAt c qs r
 
 -- an evening that ends in o
 pub record EveningHistory (c : MicroPriceConfig) (m : Memory Previous) (qs : List TopOfBook) (t : List ℕ) (l : List Float) (o : EveningOutcome) : Type 0 where
-  pub fitted : (d : Counted) → o.answer ≡ Fitted d → FittedEvening c qs t l o d
-  pub refused : (r : Refusal) → o.answer ≡ Refused r → RefusedEvening c m qs t l o r
+  pub fitted : (d : Counted) → o.answer ≡ Ok d → FittedEvening c qs t l o d
+  pub refused : (r : Refusal) → o.answer ≡ Err r → RefusedEvening c m qs t l o r

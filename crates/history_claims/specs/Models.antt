@@ -1,9 +1,8 @@
 -- What a fitted model is, and demand 3 with its last sentence: document 00, demand 3, and document 01, "The history", "The fit" and "Model and signal".
-use Rattle.std.specs.Prelude.{ℕ, ◌<◌, ◌≤◌, ◌≡◌, true, List, ◌⊎◌, Float}
+use Rattle.std.specs.Prelude.{ℕ, ◌<◌, ◌≤◌, ◌≡◌, true, List, ◌⊎◌, Float, Ok, Err}
 use Rattle.std.specs.Float.Ieee.{eq}
 use Rattle.floats.specs.Floats.{pos_zero}
 use Rattle.refusals.specs.Refusals.{number_of, refuse_if}
-use Rattle.refusals.specs.declared.Check.TheVariants as Check
 use Rattle.refusals.specs.declared.Refusal.{Refusal}
 use Rattle.refusals.specs.declared.Refusal.TheVariants.{ModelRow}
 use Rattle.config.specs.Configuration.{states}
@@ -20,7 +19,6 @@ use Rattle.model_check.specs.Check.{check_model}
 use Rattle.model_signals.specs.Claims.{Within, AnswersMirror}
 use Rattle.model_signals.specs.Signal.{signal_of}
 use Rattle.model_signals.specs.declared.MicroPriceSignal.{MicroPriceSignal}
-use Rattle.model_signals.specs.declared.Signalled.TheVariants.{Sent, Refused}
 
 pub record Model (c : MicroPriceConfig) (t : List ℕ) : Type 0 where
   -- mirrored states have equal status and observations, and adjustments that sum to zero, first and final
@@ -28,12 +26,12 @@ pub record Model (c : MicroPriceConfig) (t : List ℕ) : Type 0 where
   -- a Calibrated state's adjustment is in size at most half its spread
   pub inside : (i : ℕ) → i < states c → (row_at t i).status ≡ 0 → Inside c i (row_at t i).adjustment
   -- no quote's signal is refused by 13
-  pub served : (q : TopOfBook) (i : ℕ) → signal_of c t q ≡ Refused (ModelRow i) → ⊥
+  pub served : (q : TopOfBook) (i : ℕ) → signal_of c t q ≡ Err (ModelRow i) → ⊥
   -- the signals of a quote and of the same with its sizes exchanged mirror
   pub signals-mirror : (q : TopOfBook) → AnswersMirror (signal_of c t q) (signal_of c t (exchanged q))
   -- the model check accepts it, if the adjustment of each Rare and NoPriceMove row is zero: document 01 makes no claim that it is
   pub checked : ((i : ℕ) → i < states c → ((row_at t i).status ≡ 1) ⊎ ((row_at t i).status ≡ 2) → eq (row_at t i).adjustment pos_zero ≡ true)
-      → check_model c t ≡ Check.Fine
+      → check_model c t ≡ Ok tt
 
 -- demand 3 whole, of one configuration and one list of calls
 pub record Demand3Whole (c : MicroPriceConfig) (ks : List Call) : Type 0 where
@@ -43,8 +41,8 @@ pub record Demand3Whole (c : MicroPriceConfig) (ks : List Call) : Type 0 where
   -- before 16 a fit after the list is refused for the lengths of scratch and model table alone
   pub fit_refused : (scratch model : ℕ) → fit_refusal c (left c ks) scratch model ≡ refuse_if (wrong_fit_lengths (states c) scratch model) 7
   -- a refusal of a fit after the list is 7, or one of 16 to 19
-  pub fit-numbers : (t : List ℕ) (l : List Float) (r : Refusal) → (fit_counts c (left c ks) t l).answer ≡ Check.Refused r
+  pub fit-numbers : (t : List ℕ) (l : List Float) (r : Refusal) → (fit_counts c (left c ks) t l).answer ≡ Err r
       → (number_of r ≡ 7) ⊎ ((16 ≤ number_of r) × (number_of r ≤ 19))
-  pub model : (t : List ℕ) (l : List Float) → (fit_counts c (left c ks) t l).answer ≡ Check.Fine → Model c (fit_counts c (left c ks) t l).model
+  pub model : (t : List ℕ) (l : List Float) → (fit_counts c (left c ks) t l).answer ≡ Ok tt → Model c (fit_counts c (left c ks) t l).model
   -- of any quote and any table
-  pub signal-inside : (t : List ℕ) (q : TopOfBook) (s : MicroPriceSignal) → signal_of c t q ≡ Sent s → Within q s.adjustment
+  pub signal-inside : (t : List ℕ) (q : TopOfBook) (s : MicroPriceSignal) → signal_of c t q ≡ Ok s → Within q s.adjustment

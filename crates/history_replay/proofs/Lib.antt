@@ -1,4 +1,5 @@
-pub mod Coding
+pub mod Chunks
+pub mod Decoding
 pub mod Steps
 pub mod Replays
 pub mod Replaying

@@ -1,7 +1,7 @@
 -- An encoded list of calls, run by the operations on lent memory, with lent room for images.
 -- A call is six words: its kind, 0 a quote, 1 a save, 2 a restore; then a quote's five words, or where its bytes begin in the room, how many they are, and
 -- three words of any content. A restore is into the calibrator's own record and tables; one of another configuration is left out.
-use Rattle.std.specs.Prelude.{ℕ, zero, suc, ◌+◌, ◌*◌, ◌≡◌, Bool, true, false, not, cond, ◌&&◌, ◌||◌, List, [], ◌∷◌, ◌++◌, leb, eqb, ℤ, length, get_or, take, drop}
+use Rattle.std.specs.Prelude.{ℕ, zero, suc, ◌+◌, ◌*◌, ◌≡◌, Bool, true, false, not, cond, ◌&&◌, ◌||◌, List, [], ◌∷◌, ◌++◌, leb, eqb, length, get_or, take, drop, Result, Ok, Err, ⊤}
 use Rattle.std.proofs.Math.Option.{Option, none, some}
 use Rattle.std.proofs.lemmas.List.Edits.{sets}
 use Rattle.basics.specs.Lists.{all_from}
@@ -11,17 +11,14 @@ use Rattle.config.specs.declared.MicroPriceConfig.{MicroPriceConfig}
 use Rattle.quotes.specs.declared.TopOfBook.{TopOfBook}
 use Rattle.tally.specs.Entries.{Tables}
 use Rattle.tally.specs.Rules.{Memory}
-use Rattle.calibrator.specs.Record.{memory}
+use Rattle.calibrator.specs.Record.{memory_with, Previous}
 use Rattle.calibrator.specs.Observe.{refuses}
-use Rattle.calibrator.specs.declared.Previous.{Previous}
+use Rattle.history_replay.specs.declared.BadEncoding.{BadEncoding}
 use Rattle.calibrator.specs.declared.Record.{Record}
 use Rattle.image_layout.specs.Layout.{form_in, config_in}
 use Rattle.image.specs.Image.{restore_refusal}
-use Rattle.image.specs.declared.Restored.TheVariants as Restored
 use Rattle.history.specs.Calls.{Call, quote, save, restore, Answer, observes, saves, restores, Acted, act, run, history_memory, Past, new_past, history_run, OwnImages, ConfigWords}
 use Rattle.history.specs.Demand.{left}
-use Rattle.history_replay.specs.declared.Replayed.{Replayed}
-use Rattle.history_replay.specs.declared.Replayed.TheVariants.{Done, BadEncoding}
 
 -- ---- the encoding
 
@@ -60,8 +57,8 @@ pub record Site : Type 0 where
   pub memory : Memory Previous
   pub room : List ℕ
 
-abbrev pub site : Record → List ℕ → List ℕ → List ℤ → List ℕ → Site
-site r s m t room = record { memory = memory r s m t; room = room }
+abbrev pub site : Record → Tables → List ℕ → Site
+site r t room = record { memory = memory_with r t; room = room }
 
 abbrev pub call_at : List ℕ → ℕ → Site → Call
 call_at w k s =
@@ -95,8 +92,8 @@ other_configuration = 101
 abbrev pub answer_number : Answer → ℕ
 answer_number (observes a) = check_number a
 answer_number (saves s) = check_number s.answer
-answer_number (restores (Restored.Config d)) = 0
-answer_number (restores (Restored.Refused r)) = number_of r
+answer_number (restores (Ok d)) = 0
+answer_number (restores (Err r)) = number_of r
 
 -- what a call is answered with, and the site after it
 pub record Stepped : Type 0 where
@@ -143,17 +140,20 @@ room_from w k (some l ∷ ks) (a ∷ answers) room = room_from w (suc k) ks answ
 
 -- ---- replay
 
+abbrev pub badly_coded : BadEncoding
+badly_coded = record {}
+
 pub record Replay : Type 0 where
-  pub answer : Replayed
+  pub answer : Result ⊤ BadEncoding
   pub numbers : List ℕ
   pub after : Site
 
-abbrev pub replay : Replayed → List ℕ → Site → Replay
+abbrev pub replay : Result ⊤ BadEncoding → List ℕ → Site → Replay
 replay a ns s = record { answer = a; numbers = ns; after = s }
 
 -- the end of a replay, by the answers to the calls that are made and the memory that they leave
 abbrev pub replay_end : List ℕ → List ℕ → List (Option Call) → List Answer → Memory Previous → Replay
-replay_end w room ks answers m = replay Done (call_numbers ks answers) (record { memory = m; room = room_from w 0 ks answers room })
+replay_end w room ks answers m = replay (Ok tt) (call_numbers ks answers) (record { memory = m; room = room_from w 0 ks answers room })
 
 abbrev pub replay_run : MicroPriceConfig → Site → List ℕ → List (Option Call) → Replay
 replay_run c s w ks =
@@ -163,7 +163,7 @@ replay_run c s w ks =
 -- a bad encoding changes nothing; else the calls are run
 abbrev pub replayed : MicroPriceConfig → Site → List ℕ → List ℕ → Replay
 replayed c s w ns =
-    cond (well_coded (length s.room) (length ns) w) (replay_run c s w (calls_from c w 0 (length ns) s)) (replay BadEncoding ns s)
+    cond (well_coded (length s.room) (length ns) w) (replay_run c s w (calls_from c w 0 (length ns) s)) (replay (Err badly_coded) ns s)
 
 -- ---- as the history says
 

@@ -1,235 +1,150 @@
-// The work by value, for Rattle callers, and the functions that it is made of. `replay` asks nothing; where another has a `requires`, each caller proves it.
-ghost use Rattle.std.specs.Prelude.{◌≡◌, true, ◌+◌, ◌*◌, ◌≤◌, ◌<◌, length};
-ghost use Rattle.tally.specs.Entries.{tables};
-ghost use Rattle.calibrator.specs.Record.{memory};
-ghost use Rattle.history.specs.Calls.{quote, restore, restores};
-ghost use Rattle.history_replay.specs.Replay.{call_quote, is_call, well_coded, site, is_foreign, answer_number, stepped_to, stepped, Promised, replay as replays};
-ghost use Rattle.history_replay.specs.Inner.{CallEnds};
+// The functions that `replay` is made of. Where one has a `requires`, each caller proves it.
+ghost use Rattle.std.specs.Prelude.{◌≡◌, length};
+ghost use Rattle.tally.specs.Lent.{tables_of, tables_in, SameSlices};
+ghost use Rattle.calibrator.specs.Record.{memory_with};
+ghost use Rattle.history.specs.Calls.{quote, restore};
+ghost use Rattle.history_replay.specs.Replay.{site, is_foreign, stepped_to};
+ghost use Rattle.history_replay.specs.Inner.{CallEnds, coding, decoded, part_in, LiesIn, stepped_by};
 
-use super::{ReplayDone, Replayed};
+use super::BadEncoding;
 use calibrator::Record;
 use config::MicroPriceConfig;
-use image::Restored;
 use quotes::TopOfBook;
-use refusals::Check;
+use tally::{LentTables, TablesView};
 
-// A call's answer as a number, and the record as it is left.
+// The bytes of a save or a restore in the room, from `start` to `end`.
 #[derive(Clone, Copy)]
-pub struct CallDone {
-    pub answer: u64,
-    pub next: Record,
+pub(crate) struct Part {
+    start: usize,
+    end: usize,
+}
+
+// A call as it is read from its words.
+#[derive(Clone, Copy)]
+pub(crate) enum CodedCall {
+    Quote(TopOfBook),
+    Save(Part),
+    Restore(Part),
 }
 
 // ---- images of another configuration
 
-// The number of a restore of another configuration, which is left out.
+// The number of a restore of another configuration, which is left out (the C interface has it).
 pub const OTHER_CONFIGURATION: u64 = 101;
 
 // Whether an image is of another configuration, and restore would take it.
-fn is_foreign(
-    config: MicroPriceConfig,
-    bytes: &[u8],
-    stay: &[u64],
-    moved: &[u64],
-    move_half_ticks: &[i64],
-) -> bool
-    ensures { result ≡ is_foreign config bytes.now (tables stay.now moved.now move_half_ticks.now) }
+fn is_foreign(config: MicroPriceConfig, bytes: &[u8], tables: TablesView<'_>) -> bool
+    ensures { result ≡ is_foreign config bytes.now (tables_in tables.entry) }
 {
-    if bytes.len() < image_layout::LEAST {
-        return false;
-    }
-    if config::inner::same_config(config, image_layout::config_in(bytes)) {
-        return false;
-    }
-    match image::inner::check_restore(bytes, stay, moved, move_half_ticks) {
-        Check::Fine => true,
-        Check::Refused(_) => false,
-    }
+    bytes.len() >= image_layout::LEAST
+        && config != image_layout::config_in(bytes)
+        && image::inner::check_restore(bytes, tables).is_ok()
 }
 
 // ---- the encoding
 
-fn is_call(calls: &[u64], k: usize, room: usize) -> bool
-    requires { 6 * k + 6 ≤ length calls.now }
-    ensures { result ≡ is_call room calls.now k }
+// The bytes from `start` on, `long` of them, where they lie in the room.
+fn part_in(room: usize, start: u64, long: u64) -> Result<Part, BadEncoding>
+    ensures { result ≡ part_in room start long }
 {
-    let at = 6 * k;
-    let kind = calls[at];
-    if kind == 0 {
-        return true;
+    let start = start as usize;
+    match start.checked_add(long as usize) {
+        Some(end) if end <= room => Ok(Part { start, end }),
+        _ => Err(BadEncoding),
     }
-    if kind > 2 {
-        return false;
-    }
-    let start = calls[at + 1] as usize;
-    let long = calls[at + 2] as usize;
-    if start > room {
-        return false;
-    }
-    long <= room - start
 }
 
-fn is_well_coded(calls: &[u64], room: usize, answers: usize) -> bool
-    ensures { result ≡ well_coded room answers calls.now }
+// The call of six words, if they are one: a quote, or a save or restore whose bytes lie in the room. The kinds are the C interface's.
+pub(crate) fn call_of(words: &[u64; 6], room: usize) -> Result<CodedCall, BadEncoding>
+    ensures { result ≡ decoded room words.now 0 }
 {
-    if calls.len() % 6 != 0 {
-        return false;
+    match *words {
+        [0, timestamp_ms, bid, ask, bid_size, ask_size] => Ok(CodedCall::Quote(TopOfBook {
+            timestamp_ms,
+            bid,
+            ask,
+            bid_size,
+            ask_size,
+        })),
+        [1, start, long, ..] => Ok(CodedCall::Save(part_in(room, start, long)?)),
+        [2, start, long, ..] => Ok(CodedCall::Restore(part_in(room, start, long)?)),
+        _ => Err(BadEncoding),
     }
-    if calls.len() / 6 != answers {
-        return false;
-    }
-    let mut k = 0;
-    while k < answers {
-        if !is_call(calls, k, room) {
-            return false;
-        }
-        k += 1;
-    }
-    true
 }
 
-fn quote_at(calls: &[u64], k: usize) -> TopOfBook
-    requires { 6 * k + 6 ≤ length calls.now }
-    ensures { result ≡ call_quote calls.now k }
+// Whether the words are a call for each answer.
+pub(crate) fn check_encoding(calls: &[u64], room: usize, answers: usize) -> Result<(), BadEncoding>
+    ensures { result ≡ coding room answers calls.now }
 {
-    let at = 6 * k;
-    TopOfBook {
-        timestamp_ms: calls[at + 1],
-        bid: calls[at + 2],
-        ask: calls[at + 3],
-        bid_size: calls[at + 4],
-        ask_size: calls[at + 5],
+    let (calls, rest) = calls.as_chunks::<6>();
+    if !rest.is_empty() {
+        return Err(BadEncoding);
     }
+    if calls.len() != answers {
+        return Err(BadEncoding);
+    }
+    for words in calls {
+        call_of(words, room)?;
+    }
+    Ok(())
 }
 
 // ---- one call
 
 fn replay_quote(
-    rec: Record,
-    stay: &mut [u64],
-    moved: &mut [u64],
-    move_half_ticks: &mut [i64],
+    rec: &mut Record,
+    tables: &mut LentTables<'_>,
     config: MicroPriceConfig,
     next: TopOfBook,
-) -> CallDone
-    ensures { CallEnds config (memory rec stay.old moved.old move_half_ticks.old) (quote next) result.answer (memory result.next stay.new moved.new move_half_ticks.new) }
+) -> u64
+    ensures ends { CallEnds config (memory_with rec.old (tables_of tables.old)) (quote next) result (memory_with rec.new (tables_of tables.new)) }
+    ensures same_slices { SameSlices tables.old tables.new }
 {
-    let done = calibrator::inner::observe(rec, stay, moved, move_half_ticks, config, next);
-    let answer = done.answer;
-    let after = done.next;
-    CallDone {
-        answer: refusals::check_number(answer),
-        next: after,
-    }
-}
-
-// The number of what a restore answers.
-fn restored_number(a: Restored) -> u64
-    ensures { result ≡ answer_number (restores a) }
-{
-    match a {
-        Restored::Config(_) => 0,
-        Restored::Refused(r) => refusals::number_of(r),
-    }
+    let answer = calibrator::observe(rec, tables, config, next);
+    refusals::check_number(answer)
 }
 
 // A restore of another configuration is left out.
 fn replay_restore(
-    rec: Record,
-    stay: &mut [u64],
-    moved: &mut [u64],
-    move_half_ticks: &mut [i64],
+    rec: &mut Record,
+    tables: &mut LentTables<'_>,
     config: MicroPriceConfig,
     bytes: &[u8],
-) -> CallDone
-    ensures { let m = memory rec stay.old moved.old move_half_ticks.old in CallEnds config m (restore bytes.now m) result.answer (memory result.next stay.new moved.new move_half_ticks.new) }
+) -> u64
+    ensures ends { let m = memory_with rec.old (tables_of tables.old) in CallEnds config m (restore bytes.now m) result (memory_with rec.new (tables_of tables.new)) }
+    ensures same_slices { SameSlices tables.old tables.new }
 {
-    if is_foreign(config, bytes, stay, moved, move_half_ticks) {
-        return CallDone {
-            answer: OTHER_CONFIGURATION,
-            next: rec,
-        };
+    if is_foreign(config, bytes, tables.view()) {
+        return OTHER_CONFIGURATION;
     }
-    let done = image::inner::restore(rec, bytes, stay, moved, move_half_ticks);
-    let answer = done.answer;
-    let after = done.next;
-    CallDone {
-        answer: restored_number(answer),
-        next: after,
+    match image::restore(rec, bytes, tables) {
+        Ok(_) => 0,
+        Err(r) => r.number(),
     }
 }
 
-// Call k of a well coded list.
-fn replay_call(
-    rec: Record,
-    stay: &mut [u64],
-    moved: &mut [u64],
-    move_half_ticks: &mut [i64],
+// Makes a call whose bytes lie in the room, and answers its number.
+pub(crate) fn replay_call(
+    rec: &mut Record,
+    tables: &mut LentTables<'_>,
     config: MicroPriceConfig,
-    calls: &[u64],
-    k: usize,
+    call: CodedCall,
     room: &mut [u8],
-) -> CallDone
-    requires { (6 * k + 6 ≤ length calls.now) × (is_call (length room.old) calls.now k ≡ true) }
-    ensures { stepped_to result.answer (site result.next stay.new moved.new move_half_ticks.new room.new) ≡ stepped config calls.now k (site rec stay.old moved.old move_half_ticks.old room.old) }
+) -> u64
+    requires { LiesIn (length room.old) call }
+    ensures steps { stepped_to result (site rec.new (tables_of tables.new) room.new) ≡ stepped_by config call (site rec.old (tables_of tables.old) room.old) }
+    ensures same_slices { SameSlices tables.old tables.new }
 {
-    let at = 6 * k;
-    let kind = calls[at];
-    if kind == 0 {
-        let next = quote_at(calls, k);
-        return replay_quote(rec, stay, moved, move_half_ticks, config, next);
-    }
-    let start = calls[at + 1] as usize;
-    let end = start + calls[at + 2] as usize;
-    if kind == 1 {
-        let answer = image::inner::save(
-            rec,
-            stay,
-            moved,
-            move_half_ticks,
-            config,
-            &mut room[start..end],
-        );
-        return CallDone {
-            answer: refusals::check_number(answer),
-            next: rec,
-        };
-    }
-    replay_restore(rec, stay, moved, move_half_ticks, config, &room[start..end])
-}
-
-// ---- the list
-
-// The work of `replay` on a record by value.
-pub fn replay(
-    rec: Record,
-    stay: &mut [u64],
-    moved: &mut [u64],
-    move_half_ticks: &mut [i64],
-    config: MicroPriceConfig,
-    calls: &[u64],
-    room: &mut [u8],
-    answers: &mut [u64],
-) -> ReplayDone
-    ensures { Promised config (site rec stay.old moved.old move_half_ticks.old room.old) calls.now answers.old
-        (replays result.answer answers.new (site result.next stay.new moved.new move_half_ticks.new room.new)) }
-{
-    if !is_well_coded(calls, room.len(), answers.len()) {
-        return ReplayDone {
-            answer: Replayed::BadEncoding,
-            next: rec,
-        };
-    }
-    let mut next = rec;
-    let mut k = 0;
-    while k < answers.len() {
-        let done = replay_call(next, stay, moved, move_half_ticks, config, calls, k, room);
-        answers[k] = done.answer;
-        next = done.next;
-        k += 1;
-    }
-    ReplayDone {
-        answer: Replayed::Done,
-        next,
+    match call {
+        CodedCall::Quote(next) => replay_quote(rec, tables, config, next),
+        CodedCall::Save(part) => {
+            let out = &mut room[part.start..part.end];
+            let answer = image::save(rec, tables.view(), config, out);
+            refusals::check_number(answer)
+        }
+        CodedCall::Restore(part) => {
+            let bytes = &room[part.start..part.end];
+            replay_restore(rec, tables, config, bytes)
+        }
     }
 }

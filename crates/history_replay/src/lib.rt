@@ -3,50 +3,37 @@
 
 use calibrator::Record;
 use config::MicroPriceConfig;
+use tally::LentTables;
 
 pub mod inner;
 
+ghost use Rattle.tally.specs.Lent.{tables_of, SameSlices};
 ghost use Rattle.history_replay.specs.Replay.{site, Promised, replay as replays};
 
-// What a replay answers. A bad encoding changes nothing.
+// A list that is no encoding of as many calls as there are answers, or has bytes past the room.
 #[derive(Clone, Copy)]
-pub enum Replayed {
-    Done,
-    BadEncoding,
-}
-
-// A replay's answer with the record as it is left.
-#[derive(Clone, Copy)]
-pub struct ReplayDone {
-    pub answer: Replayed,
-    pub next: Record,
-}
+pub struct BadEncoding;
 
 // Runs an encoded list of calls and writes each one's answer. A call is six words: 0 and a quote; 1 (save) or 2 (restore), where its bytes begin in the room,
-// how many they are, and three words of any content. A restore of another configuration is left out: it is answered 101 and changes nothing.
+// how many they are, and three words of any content. A restore of another configuration is left out: it is answered 101 and changes nothing. A bad encoding
+// changes nothing.
 pub fn replay(
     rec: &mut Record,
-    stay: &mut [u64],
-    moved: &mut [u64],
-    move_half_ticks: &mut [i64],
+    tables: &mut LentTables<'_>,
     config: MicroPriceConfig,
     calls: &[u64],
     room: &mut [u8],
     answers: &mut [u64],
-) -> Replayed
-    ensures { Promised config (site rec.old stay.old moved.old move_half_ticks.old room.old) calls.now answers.old
-        (replays result answers.new (site rec.new stay.new moved.new move_half_ticks.new room.new)) }
+) -> Result<(), BadEncoding>
+    ensures runs { Promised config (site rec.old (tables_of tables.old) room.old) calls.now answers.old
+        (replays result answers.new (site rec.new (tables_of tables.new) room.new)) }
+    ensures same_slices { SameSlices tables.old tables.new }
 {
-    let done = inner::replay(
-        *rec,
-        stay,
-        moved,
-        move_half_ticks,
-        config,
-        calls,
-        room,
-        answers,
-    );
-    *rec = done.next;
-    done.answer
+    inner::check_encoding(calls, room.len(), answers.len())?;
+    let (calls, _) = calls.as_chunks::<6>();
+    for (k, answer) in answers.iter_mut().enumerate() {
+        let call = inner::call_of(&calls[k], room.len())?;
+        *answer = inner::replay_call(rec, tables, config, call, room);
+    }
+    Ok(())
 }

@@ -5,30 +5,30 @@ use mathlib.Core.Bool.{Bool, true, false, not, ◌&&◌}
 use mathlib.Core.List.{List, [], ◌∷◌, map}
 use native.Mathlib.Omega.{arith}
 use lib.Dec.{eqb}
-use lib.IntN.{ℤ}
-use lib.ListN.{length, take, drop, length-take, length-drop}
+use lib.ListN.{length, take, drop, length-take, length-drop, length-map}
 use lib.Seq.{drop-drop, take-take}
 use borrow.Author.Tests.{eqb-true, ltb-false, not-false}
 use Rattle.basics.specs.Lists.{same_words}
 use Rattle.basics.proofs.Lists.{same-equal}
-use Rattle.basics.proofs.Tests.{zero-not-one, both}
+use Rattle.basics.proofs.Tests.{both}
 use Rattle.image_words.specs.Words.{value, words_of, untwos}
+use Rattle.image_words.proofs.Laws.{length-words}
 use Rattle.refusals.specs.Refusals.{refuse_if, first_of}
-use Rattle.refusals.specs.declared.Check.TheVariants.{Fine}
+use Rattle.std.specs.Prelude.{Ok}
 use Rattle.refusals.proofs.Refusals.{if-fine, first_fine}
 use Rattle.config.specs.Configuration.{states, valid, check_config}
 use Rattle.config.specs.Inner.{Valid}
 use Rattle.config.specs.declared.MicroPriceConfig.{MicroPriceConfig}
-use Rattle.config.proofs.Known.{valid-known}
+use Rattle.config.proofs.Known.{valid-unrefused, config-known}
 use Rattle.tally.specs.Entries.{Tables}
 use Rattle.tally.specs.Rules.{Memory}
 use Rattle.count_check.specs.Mirrors.{check_mirrored}
-use Rattle.count_check.specs.Inner.{tables_in, HasTables}
-use Rattle.calibrator.specs.Observe.{wrong_lengths, check_memory, broken}
-use Rattle.calibrator.specs.declared.Previous.{Previous}
+use Rattle.count_check.specs.Inner.{words_in, tables_in_bytes, HasTables}
+use Rattle.calibrator.specs.Observe.{wrong_lengths, lent_wrong, check_memory, broken}
+use Rattle.calibrator.specs.Record.{Previous}
 use Rattle.calibrator.proofs.Lengths.{tables-known, lengths-known}
 use Rattle.image_layout.specs.Layout.{oldest, newest, is_read, header_length, cells, image_length, header, form_in, config_in, previous_in, tables_from, memory_in, header_in, laid_out}
-use Rattle.image.specs.Image.{save_refusal, too_short, lent_wrong, held_refusal, form_refusal, restore_refusal}
+use Rattle.image.specs.Image.{save_refusal, too_short, held_refusal, form_refusal, restore_refusal}
 use Rattle.image.specs.Inner.{Readable}
 
 -- ---- save
@@ -36,22 +36,22 @@ use Rattle.image.specs.Inner.{Readable}
 pub record Savable (c : MicroPriceConfig) (m : Memory Previous) (long : ℕ) : Type 0 where
   pub valid-is : valid c ≡ true
   pub conf : Valid c
-  pub enough : check_memory c m ≡ Fine
-  pub sizes : wrong_lengths (states c) (length m.counts.tables.stay) (length m.counts.tables.moved) (length m.counts.tables.totals) ≡ false
+  pub enough : check_memory c m ≡ Ok tt
+  pub sizes : lent_wrong (states c) m.counts.tables ≡ false
   pub long-is : long ≡ image_length newest c
   pub sound : broken c m.last ≡ false
-  pub mirrored : check_mirrored c m.counts ≡ Fine
+  pub mirrored : check_mirrored c m.counts ≡ Ok tt
 
-pub save-known : (c : MicroPriceConfig) (m : Memory Previous) (long : ℕ) → save_refusal c m long ≡ Fine → Savable c m long
+pub save-known : (c : MicroPriceConfig) (m : Memory Previous) (long : ℕ) → save_refusal c m long ≡ Ok tt → Savable c m long
 save-known c m long e =
     let last = first_of (refuse_if (broken c m.last) 8) (check_mirrored c m.counts) in
     let a = first_fine (check_memory c m) (first_of (refuse_if (not (eqb long (image_length newest c))) 7) last) e in
     let b = first_fine (refuse_if (not (eqb long (image_length newest c))) 7) last a.1 in
     let d = first_fine (refuse_if (broken c m.last) 8) (check_mirrored c m.counts) b.1 in
     let r = tables-known c (length m.counts.tables.stay) (length m.counts.tables.moved) (length m.counts.tables.totals) a.0 in
-    let w = wrong_lengths (states c) (length m.counts.tables.stay) (length m.counts.tables.moved) (length m.counts.tables.totals) in
+    let w = lent_wrong (states c) m.counts.tables in
     record {
-      valid-is = not-false (valid c) (if-fine (not (valid c)) 1 refl (first_fine (check_config c) (refuse_if w 7) a.0).0);
+      valid-is = valid-unrefused c (first_fine (check_config c) (refuse_if w 7) a.0).0;
       conf = r.0;
       enough = a.0;
       sizes = r.1;
@@ -92,9 +92,9 @@ pub record Restorable (form : ℕ) (b : List ℕ) (t : Tables) : Type 0 where
   pub whole : length b ≡ image_length form (config_in form b)
   pub sizes : lent_wrong (states (config_in form b)) t ≡ false
   pub sound : broken (config_in form b) (previous_in b) ≡ false
-  pub mirrored : check_mirrored (config_in form b) (memory_in form b).counts ≡ Fine
+  pub mirrored : check_mirrored (config_in form b) (memory_in form b).counts ≡ Ok tt
 
-form-known : (form : ℕ) (b : List ℕ) (t : Tables) → form_refusal form b t ≡ Fine → Restorable form b t
+form-known : (form : ℕ) (b : List ℕ) (t : Tables) → form_refusal form b t ≡ Ok tt → Restorable form b t
 form-known form b t e =
     let c = config_in form b in
     let a = first_fine (refuse_if (too_short b) 12) (first_of (check_config c) (first_of (refuse_if (not (laid_out form b)) 12) (held_refusal form b t))) e in
@@ -107,8 +107,8 @@ form-known form b t e =
     record {
       read = laid-out-read form b l;
       header-there = ltb-false (length b) (header_length oldest) (if-fine (too_short b) 12 refl a.0);
-      valid-is = not-false (valid c) (if-fine (not (valid c)) 1 refl d.0);
-      conf = valid-known c (not-false (valid c) (if-fine (not (valid c)) 1 refl d.0));
+      valid-is = valid-unrefused c d.0;
+      conf = config-known c d.0;
       header_is = laid-out-header form b l;
       whole = laid-out-whole form b l;
       sizes = if-fine (lent_wrong (states c) t) 7 refl h.0;
@@ -129,14 +129,14 @@ restore-by-lengths b t u stay moved totals =
     (first_of (refuse_if (wrong_lengths (states c) (stay i) (moved i) (totals i)) 7)
     (first_of (refuse_if (broken c (previous_in b)) 8) (check_mirrored c (memory_in form b).counts)))))
 
-module _ (b : List ℕ) (t : Tables) (e : restore_refusal b t ≡ Fine) where
+module _ (b : List ℕ) (t : Tables) (e : restore_refusal b t ≡ Ok tt) where
   pub restore-known : Restorable (form_in b) b t
   restore-known = form-known (form_in b) b t e
 
   pub restore-newest : form_in b ≡ newest
   restore-newest = read-newest (form_in b) restore-known.read
 
-  pub restore-readable : Readable (form_in b) b (length t.stay) (length t.moved) (length t.totals)
+  pub restore-readable : Readable (form_in b) b t
   restore-readable =
       let k = restore-known in
       let z = lengths-known (states (config_in (form_in b) b)) (length t.stay) (length t.moved) (length t.totals) k.sizes in
@@ -167,12 +167,11 @@ words_take (suc n) k l h =
     λ i. value (take-take 8 k l (omega arith) i) ∷ (ap (words_of n) (drop-take 8 k l (omega arith)) ∙ words_take n (k - 8) (drop 8 l) (omega arith)) i
 
 -- a part of n words
-part : (n k at : ℕ) (b : List ℕ) → k ≡ 8 * n → at + 8 * n ≤ length b
-    → (length (take k (drop at b)) ≡ 8 * n) × (words_of (length (take k (drop at b)) / 8) (take k (drop at b)) ≡ words_of n (drop at b))
+part : (n k at : ℕ) (b : List ℕ) → k ≡ 8 * n → at + 8 * n ≤ length b → words_in (take k (drop at b)) ≡ words_of n (drop at b)
 part n k at b e h =
     let l : length (take k (drop at b)) ≡ 8 * n = simp (length-take, length-drop) (omega arith) in
     let d : length (take k (drop at b)) / 8 ≡ n = omega arith in
-    (l, ap (λ (j : ℕ). words_of j (take k (drop at b))) d ∙ words_take n k (drop at b) (omega arith))
+    ap (λ (j : ℕ). words_of j (take k (drop at b))) d ∙ words_take n k (drop at b) (omega arith)
 
 module _ (form : ℕ) (b : List ℕ) (c : MicroPriceConfig) (v : Valid c) (long : length b ≡ image_length form c) (C : ℕ) (is : C ≡ cells c) where
   abbrev start : ℕ
@@ -187,33 +186,33 @@ module _ (form : ℕ) (b : List ℕ) (c : MicroPriceConfig) (v : Valid c) (long 
   abbrev tb : List ℕ
   tb = take (length b - (start + 16 * C)) (drop (start + 16 * C) b)
 
-  in-stay : (length sb ≡ 8 * C) × (words_of (length sb / 8) sb ≡ words_of C (drop start b))
+  in-stay : words_in sb ≡ words_of C (drop start b)
   in-stay = part C (start + 8 * C - start) start b (omega arith) (omega arith)
 
-  in_moved : (length mb ≡ 8 * C) × (words_of (length mb / 8) mb ≡ words_of C (drop (start + 8 * C) b))
+  in_moved : words_in mb ≡ words_of C (drop (start + 8 * C) b)
   in_moved = part C (start + 16 * C - (start + 8 * C)) (start + 8 * C) b (omega arith) (omega arith)
 
-  in-totals : (length tb ≡ 8 * states c) × (words_of (length tb / 8) tb ≡ words_of (states c) (drop (start + 16 * C) b))
+  in-totals : words_in tb ≡ words_of (states c) (drop (start + 16 * C) b)
   in-totals = part (states c) (length b - (start + 16 * C)) (start + 16 * C) b (omega arith) (omega arith)
 
-  pub parts-lie : (s m t : ℕ) → HasTables true (states c) s m t (length sb) (length mb) (length tb)
-  parts-lie s m t =
+  pub parts-lie : HasTables (states c) (tables_in_bytes sb mb tb)
+  parts-lie =
       record {
         few = v.states-most;
-        stay-there = record { lent_is = λ e. absurd (zero-not-one cc); bytes-is = λ e. omega (arith, in-stay.0) };
-        moved-there = record { lent_is = λ e. absurd (zero-not-one cc); bytes-is = λ e. omega (arith, in_moved.0) };
-        totals-there = record { lent_is = λ e. absurd (zero-not-one cc); bytes-is = λ e. in-totals.0 };
+        stay-cells = ap length in-stay ∙ length-words C _ ∙ is;
+        moved-cells = ap length in_moved ∙ length-words C _ ∙ is;
+        totals-cells = length-map (words_in tb) untwos ∙ ap length in-totals ∙ length-words (states c) _;
       }
 
-  pub parts_are : (s m : List ℕ) (t : List ℤ) → tables_in true s m t sb mb tb ≡ tables_from (states c) (drop start b)
-  parts_are s m t =
+  pub parts_are : tables_in_bytes sb mb tb ≡ tables_from (states c) (drop start b)
+  parts_are =
       let dm : drop (start + 8 * C) b ≡ drop (8 * cells c) (drop start b) =
       sym (drop-drop (8 * cells c) start b ∙ ap (λ (j : ℕ). drop j b) (let s : start + 8 * cells c ≡ start + 8 * C = omega arith in s)) in
       let dt : drop (start + 16 * C) b ≡ drop (16 * cells c) (drop start b) =
       sym (drop-drop (16 * cells c) start b ∙ ap (λ (j : ℕ). drop j b) (let s : start + 16 * cells c ≡ start + 16 * C = omega arith in s)) in
       λ i.
       record {
-        stay = (in-stay.1 ∙ ap (λ (j : ℕ). words_of j (drop start b)) is) i;
-        moved = (in_moved.1 ∙ ap (λ (j : ℕ). words_of j (drop (start + 8 * C) b)) is ∙ ap (words_of (cells c)) dm) i;
-        totals = ap (map untwos) (in-totals.1 ∙ ap (words_of (states c)) dt) i;
+        stay = (in-stay ∙ ap (λ (j : ℕ). words_of j (drop start b)) is) i;
+        moved = (in_moved ∙ ap (λ (j : ℕ). words_of j (drop (start + 8 * C) b)) is ∙ ap (words_of (cells c)) dm) i;
+        totals = ap (map untwos) (in-totals ∙ ap (words_of (states c)) dt) i;
       }

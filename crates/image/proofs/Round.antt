@@ -19,9 +19,8 @@ use Rattle.image_words.specs.Words.{bytes_of, words_of, twos, untwos, AllBytes, 
 use Rattle.image_words.proofs.Laws.{length-bytes, length-words, words-at, words-part}
 use Rattle.image_words.proofs.Round.{words_back, bytes_back, bytes_drop, words-fit, words-join, twos_back}
 use Rattle.tally.specs.Totals.{within}
-use Rattle.refusals.specs.Refusals.{refuse_if, first_of, first_from}
-use Rattle.refusals.specs.declared.Check.{Check}
-use Rattle.refusals.specs.declared.Check.TheVariants.{Fine, Refused}
+use Rattle.refusals.specs.Refusals.{refuse_if, first_of, first_from, Check}
+use Rattle.std.specs.Prelude.{Some, None, Ok, Err}
 use Rattle.refusals.proofs.Refusals.{if-fine, first_fine}
 use Rattle.config.specs.Configuration.{states, valid}
 use Rattle.config.specs.Inner.{Valid}
@@ -32,16 +31,13 @@ use Rattle.tally.specs.Events.{Counts}
 use Rattle.tally.specs.Limits.{over_counter}
 use Rattle.tally.specs.Rules.{Memory}
 use Rattle.count_check.specs.Mirrors.{check_mirrored, stored_over, check_state, is_twice, check_counts}
-use Rattle.calibrator.specs.Observe.{check_memory, broken}
-use Rattle.calibrator.specs.Record.{counts_of, memory}
+use Rattle.calibrator.specs.Observe.{lent_wrong, check_memory, broken}
+use Rattle.calibrator.specs.Record.{counts_of, memory, Previous}
 use Rattle.calibrator.specs.declared.Counters.{Counters}
-use Rattle.calibrator.specs.declared.Previous.{Previous}
-use Rattle.calibrator.specs.declared.Previous.TheVariants.{Nothing, Quoted}
 use Rattle.calibrator.specs.declared.Record.{Record}
 use Rattle.calibrator.proofs.Lengths.{RightLengths, lengths-known}
 use Rattle.image_layout.specs.Layout.{oldest, newest, is_read, header_length, cells, image_length, header, body, image, word, form_in, config_in, previous_in, record_in, tables_from, memory_in, header_in, laid_out}
-use Rattle.image.specs.Image.{save_refusal, end_save, saved_unless, saved, too_short, lent_wrong, held_refusal, form_refusal, restore_refusal, end_restore, taken_unless, restored}
-use Rattle.image.specs.declared.Restored.TheVariants.{Config}
+use Rattle.image.specs.Image.{save_refusal, end_save, saved_unless, saved, too_short, held_refusal, form_refusal, restore_refusal, end_restore, taken_unless, restored}
 use Rattle.image_layout.proofs.Parts.{length-header}
 use Rattle.image.proofs.Judged.{save-known, restore-known, restore-newest}
 use Rattle.image.proofs.Ways.{held_with}
@@ -53,7 +49,7 @@ unfolding header_in
 header-words form b = refl
 
 -- an image that restore accepts is, in its own form, what save writes of what it holds: no byte of it does not matter
-pub accepted-in-form : (b : List ℕ) (t : Tables) → AllBytes b → restore_refusal b t ≡ Fine
+pub accepted-in-form : (b : List ℕ) (t : Tables) → AllBytes b → restore_refusal b t ≡ Ok tt
     → image (form_in b) (config_in (form_in b) b) (memory_in (form_in b) b) ≡ b
 accepted-in-form b t a e =
     let form = form_in b in
@@ -79,7 +75,7 @@ accepted-in-form b t a e =
     ∙ bytes_back (form + (C + (C + N))) b a (omega (arith, k.whole))
 
 -- restore accepts the newest form alone
-pub accepted-image : (b : List ℕ) (t : Tables) → AllBytes b → restore_refusal b t ≡ Fine → image newest (config_in newest b) (memory_in newest b) ≡ b
+pub accepted-image : (b : List ℕ) (t : Tables) → AllBytes b → restore_refusal b t ≡ Ok tt → image newest (config_in newest b) (memory_in newest b) ≡ b
 accepted-image b t a e =
     ap (λ (form : ℕ). image form (config_in form b) (memory_in form b)) (sym (restore-newest b t e)) ∙ accepted-in-form b t a e
 
@@ -98,16 +94,16 @@ totals-back (z ∷ l) e =
 -- the record read back from the header's words
 previous-read : (form : ℕ) (c : MicroPriceConfig) (l : Previous) (k : Counters) (T : Tables) (rest : List ℕ)
     → cond (eqb (get_or (header form c l (counts_of k T) ++ rest) 9 0) 1)
-    (Quoted (record {
+    (Some (record {
       timestamp_ms = get_or (header form c l (counts_of k T) ++ rest) 10 0;
       bid = get_or (header form c l (counts_of k T) ++ rest) 11 0;
       ask = get_or (header form c l (counts_of k T) ++ rest) 12 0;
       bid_size = get_or (header form c l (counts_of k T) ++ rest) 13 0;
       ask_size = get_or (header form c l (counts_of k T) ++ rest) 14 0;
-    })) Nothing ≡ l
+    })) None ≡ l
 unfolding header
-previous-read form c Nothing k T rest = refl
-previous-read form c (Quoted q) k T rest = refl
+previous-read form c None k T rest = refl
+previous-read form c (Some q) k T rest = refl
 
 counters-read : (form : ℕ) (c : MicroPriceConfig) (l : Previous) (k : Counters) (T : Tables) (rest : List ℕ)
     → ◌≡◌ {A = Counters}
@@ -118,8 +114,8 @@ counters-read : (form : ℕ) (c : MicroPriceConfig) (l : Previous) (k : Counters
       largest_move_half_ticks = get_or (header form c l (counts_of k T) ++ rest) 18 0;
     }) k
 unfolding header
-counters-read form c Nothing k T rest = refl
-counters-read form c (Quoted q) k T rest = refl
+counters-read form c None k T rest = refl
+counters-read form c (Some q) k T rest = refl
 
 module _ (form : ℕ) (c : MicroPriceConfig) (l : Previous) (k : Counters) (s m : List ℕ) (t : List ℤ) where
   abbrev T : Tables
@@ -196,7 +192,7 @@ module _ (form : ℕ) (c : MicroPriceConfig) (l : Previous) (k : Counters) (s m 
     previous-back =
         (λ i.
         cond (eqb (word-is 9 (omega arith) i) 1)
-        (Quoted
+        (Some
         (record {
           timestamp_ms = word-is 10 (omega arith) i;
           bid = word-is 11 (omega arith) i;
@@ -204,7 +200,7 @@ module _ (form : ℕ) (c : MicroPriceConfig) (l : Previous) (k : Counters) (s m 
           bid_size = word-is 13 (omega arith) i;
           ask_size = word-is 14 (omega arith) i;
         }))
-        Nothing)
+        None)
         ∙ previous-read form c l k T (body T)
 
     counters-back : (record_in form b).counters ≡ k
@@ -262,38 +258,38 @@ module _ (form : ℕ) (c : MicroPriceConfig) (l : Previous) (k : Counters) (s m 
         ∙ rw (same_self h, eqb_same (image_length form c))
 
     -- and nothing refuses it, where the form is read, nothing refused the save and the lent tables have its lengths
-    pub image-accepted : is_read form ≡ true → valid c ≡ true → broken c l ≡ false → check_mirrored c (counts_of k T) ≡ Fine → (lent : Tables)
-        → lent_wrong (states c) lent ≡ false → restore_refusal b lent ≡ Fine
+    pub image-accepted : is_read form ≡ true → valid c ≡ true → broken c l ≡ false → check_mirrored c (counts_of k T) ≡ Ok tt → (lent : Tables)
+        → lent_wrong (states c) lent ≡ false → restore_refusal b lent ≡ Ok tt
     image-accepted read valid-c sound fine lent sizes =
         let short : too_short b ≡ false = le-ltb (length b) (header_length oldest) (omega (arith, image-length)) in
         let conf : valid (config_in form b) ≡ true = ap valid config-back ∙ valid-c in
-        let held-fine : held_refusal form b lent ≡ Fine =
+        let held-fine : held_refusal form b lent ≡ Ok tt =
         (λ i. held_with (config-back i) (previous-back i) (memory-back i).counts lent) ∙ rw (sizes, sound, fine) in
         ap (λ (f : ℕ). form_refusal f b lent) form-back ∙ rw (short, conf, laid_out_lem read, held-fine)
 
     -- what restore then gives
-    pub image-taken : (lent : Memory Previous) → taken_unless Fine b lent ≡ end_restore (Config c) held
+    pub image-taken : (lent : Memory Previous) → taken_unless (Ok tt) b lent ≡ end_restore (Ok c) held
     image-taken lent =
-        ap (λ (f : ℕ). end_restore (Config (config_in f b)) (memory_in f b)) form-back
-        ∙ (λ i. end_restore (Config (config-back i)) (memory-back i))
+        ap (λ (f : ℕ). end_restore (Ok (config_in f b)) (memory_in f b)) form-back
+        ∙ (λ i. end_restore (Ok (config-back i)) (memory-back i))
 
 -- ---- in the operations' own definitions
 
-counts-small : (N : ℕ) (mirror : ℕ → ℕ) (k : Counts) → check_counts N mirror k ≡ Fine → any over_total k.tables.totals ≡ false
+counts-small : (N : ℕ) (mirror : ℕ → ℕ) (k : Counts) → check_counts N mirror k ≡ Ok tt → any over_total k.tables.totals ≡ false
 counts-small N mirror k e =
     let f = first_fine (refuse_if (stored_over k) 6)
     (first_of (first_from (check_state N mirror k.tables) 0 N) (refuse_if (not (is_twice k.pairs k.tables)) 11)) e in
     (neither (over_counter k.pairs || any over_counter k.skips) (any over_total k.tables.totals) (if-fine (stored_over k) 6 refl f.0)).1
 
-save-fine : (x : Check) (before written : List ℕ) → (saved_unless x before written).answer ≡ Fine → (x ≡ Fine) × ((saved_unless x before written).output ≡ written)
-save-fine Fine before written e = (refl, refl)
-save-fine (Refused r) before written e = absurd (zero-not-one cc)
+save-fine : (x : Check) (before written : List ℕ) → (saved_unless x before written).answer ≡ Ok tt → (x ≡ Ok tt) × ((saved_unless x before written).output ≡ written)
+save-fine (Ok _) before written e = (refl, refl)
+save-fine (Err r) before written e = absurd (zero-not-one cc)
 
 -- restoring what was saved, into any memory of the right lengths, gives back configuration, record and tables
 pub restored-saved : (c : MicroPriceConfig) (r : Record) (s m : List ℕ) (t : List ℤ) (out : List ℕ) (lent : Memory Previous)
     → AllWords (header newest c r.previous (counts_of r.counters (tables s m t)) ++ body (tables s m t))
-    → lent_wrong (states c) lent.counts.tables ≡ false → (saved c (memory r s m t) out).answer ≡ Fine
-    → restored (saved c (memory r s m t) out).output lent ≡ end_restore (Config c) (memory r s m t)
+    → lent_wrong (states c) lent.counts.tables ≡ false → (saved c (memory r s m t) out).answer ≡ Ok tt
+    → restored (saved c (memory r s m t) out).output lent ≡ end_restore (Ok c) (memory r s m t)
 restored-saved c r s m t out lent fits sizes e =
     let f = save-fine (save_refusal c (memory r s m t) (length out)) out (image newest c (memory r s m t)) e in
     let k = save-known c (memory r s m t) (length out) f.0 in
@@ -306,12 +302,12 @@ restored-saved c r s m t out lent fits sizes e =
     ∙ ap (λ (x : Check). taken_unless x b lent) taken
     ∙ image-taken newest c r.previous r.counters s m t (omega arith) k.conf z fits small lent
 
-restore-fine : (x : Check) (b : List ℕ) (m : Memory Previous) (c : MicroPriceConfig) → (taken_unless x b m).answer ≡ Config c
-    → (x ≡ Fine) × (config_in (form_in b) b ≡ c) × ((taken_unless x b m).left ≡ memory_in (form_in b) b)
-restore-fine Fine b m c e = (refl, cc, refl)
-restore-fine (Refused r) b m c e = absurd (zero-not-one cc)
+restore-fine : (x : Check) (b : List ℕ) (m : Memory Previous) (c : MicroPriceConfig) → (taken_unless x b m).answer ≡ Ok c
+    → (x ≡ Ok tt) × (config_in (form_in b) b ≡ c) × ((taken_unless x b m).left ≡ memory_in (form_in b) b)
+restore-fine (Ok _) b m c e = (refl, cc, refl)
+restore-fine (Err r) b m c e = absurd (zero-not-one cc)
 
-held-lengths : (b : List ℕ) (t : Tables) → restore_refusal b t ≡ Fine → check_memory (config_in (form_in b) b) (memory_in (form_in b) b) ≡ Fine
+held-lengths : (b : List ℕ) (t : Tables) → restore_refusal b t ≡ Ok tt → check_memory (config_in (form_in b) b) (memory_in (form_in b) b) ≡ Ok tt
 held-lengths b t e =
     let k = restore-known b t e in
     let N = states (config_in (form_in b) b) in
@@ -323,8 +319,8 @@ held-lengths b t e =
     rw (k.valid-is, ls, lm, lt, eqb_same (N * N), eqb_same N)
 
 -- and saving what restore gave writes the image that it was given
-pub saved-restored : (b : List ℕ) (lent : Memory Previous) (c : MicroPriceConfig) (out : List ℕ) → AllBytes b → (restored b lent).answer ≡ Config c
-    → length out ≡ length b → saved c (restored b lent).left out ≡ end_save Fine b
+pub saved-restored : (b : List ℕ) (lent : Memory Previous) (c : MicroPriceConfig) (out : List ℕ) → AllBytes b → (restored b lent).answer ≡ Ok c
+    → length out ≡ length b → saved c (restored b lent).left out ≡ end_save (Ok tt) b
 saved-restored b lent c out bytes e long =
     let form = form_in b in
     let f = restore-fine (restore_refusal b lent.counts.tables) b lent c e in
@@ -333,8 +329,8 @@ saved-restored b lent c out bytes e long =
     let enough = held-lengths b lent.counts.tables f.0 in
     let whole : eqb (length out) (image_length newest (config_in form b)) ≡ true =
     eq-eqb _ _ (long ∙ k.whole ∙ ap (λ (x : ℕ). image_length x (config_in form b)) n) in
-    let fine : save_refusal (config_in form b) (memory_in form b) (length out) ≡ Fine = rw (enough, whole, k.sound, k.mirrored) in
+    let fine : save_refusal (config_in form b) (memory_in form b) (length out) ≡ Ok tt = rw (enough, whole, k.sound, k.mirrored) in
     (λ i. saved (sym f.1 i) (f.2 i) out)
     ∙ ap (λ (x : Check). saved_unless x out (image newest (config_in form b) (memory_in form b))) fine
-    ∙ ap (λ (x : ℕ). end_save Fine (image x (config_in form b) (memory_in form b))) (sym n)
-    ∙ ap (end_save Fine) (accepted-in-form b lent.counts.tables bytes f.0)
+    ∙ ap (λ (x : ℕ). end_save (Ok tt) (image x (config_in form b) (memory_in form b))) (sym n)
+    ∙ ap (end_save (Ok tt)) (accepted-in-form b lent.counts.tables bytes f.0)

@@ -1,50 +1,40 @@
 -- The ways through the judgement of an image and through its reading: each law takes what code has found on that way, in its order.
-use Prim.Native.Nat.{ℕ, ◌+◌, ◌*◌, ◌≤◌, ◌<◌}
+use Prim.Native.Nat.{ℕ, ◌+◌, ◌*◌, ◌≤◌}
 use mathlib.Core.Path.{◌≡◌, sym, ap, ◌∙◌}
-use mathlib.Core.Bool.{Bool, true, false, not}
+use mathlib.Core.Bool.{Bool, true, false}
 use mathlib.Core.List.{List, map}
 use native.Mathlib.Omega.{arith}
 use lib.IntN.{ℤ}
 use lib.ListN.{length, drop}
 use lib.Seq.{drop-drop}
-use borrow.Author.Tests.{lt-ltb, le-ltb, not-true, not-false}
+use borrow.Author.Tests.{le-ltb}
 use Rattle.image_words.specs.Words.{words_of, untwos}
-use Rattle.refusals.specs.Refusals.{refuse_if, first_of, refusal}
-use Rattle.refusals.specs.declared.Check.{Check}
-use Rattle.refusals.specs.declared.Check.TheVariants.{Fine}
+use Rattle.refusals.specs.Refusals.{refuse_if, first_of, refusal, Check}
+use Rattle.std.specs.Prelude.{Ok}
 use Rattle.config.specs.Configuration.{states, valid}
 use Rattle.config.specs.declared.MicroPriceConfig.{MicroPriceConfig}
 use Rattle.tally.specs.Entries.{Tables, tables}
 use Rattle.tally.specs.Events.{Counts}
 use Rattle.tally.specs.Rules.{Memory}
-use Rattle.calibrator.specs.Observe.{broken}
-use Rattle.calibrator.specs.Record.{counts_of, memory}
-use Rattle.calibrator.specs.declared.Previous.{Previous}
+use Rattle.calibrator.specs.Observe.{broken, lent_wrong}
+use Rattle.calibrator.specs.Record.{counts_of, memory, Previous}
 use Rattle.calibrator.specs.declared.Record.{Record}
 use Rattle.count_check.specs.Mirrors.{check_mirrored}
 use Rattle.image_layout.specs.Layout.{oldest, header_length, cells, form_in, config_in, record_in, tables_from, memory_in, laid_out}
-use Rattle.image.specs.Image.{lent_wrong, held_refusal, form_refusal, restore_refusal, end_restore, restored}
+use Rattle.image.specs.Image.{held_refusal, form_refusal, restore_refusal, end_restore, restored}
 use Rattle.image.specs.Inner.{Readable}
-use Rattle.image.specs.declared.Restored.TheVariants.{Config}
 
--- ---- the judgement of an image by its form, by what code finds of it in turn: its length, c of its header, v whether c is valid, l whether it is laid out
-module _ (form : ℕ) (b : List ℕ) (t : Tables) where
-  pub way-short : length b < header_length oldest → refusal 12 ≡ form_refusal form b t
-  way-short h = rw (lt-ltb _ _ h)
+-- ---- the judgement of an image by its form, by what code finds of it in turn: its length, c of its header, which is valid, l whether it is laid out
+module _ (form : ℕ) (b : List ℕ) (t : Tables) {c : MicroPriceConfig} (long : header_length oldest ≤ length b) (ec : c ≡ config_in form b)
+    (is : valid c ≡ true) {l : Bool} (el : l ≡ laid_out form b) where
+  validity : valid (config_in form b) ≡ true
+  validity = ap valid (sym ec) ∙ is
 
-  module _ {c : MicroPriceConfig} {v : Bool} (long : header_length oldest ≤ length b) (ec : c ≡ config_in form b) (ev : v ≡ valid c) where
-    validity : valid (config_in form b) ≡ v
-    validity = ap valid (sym ec) ∙ sym ev
+  pub way-layout : l ≡ false → refusal 12 ≡ form_refusal form b t
+  way-layout e = rw (le-ltb _ _ long, validity, ← el, e)
 
-    pub way-invalid : not v ≡ true → refusal 1 ≡ form_refusal form b t
-    way-invalid e = rw (le-ltb _ _ long, validity, not-true v e)
-
-    module _ {l : Bool} (is : not v ≡ false) (el : l ≡ laid_out form b) where
-      pub way-layout : not l ≡ true → refusal 12 ≡ form_refusal form b t
-      way-layout e = rw (le-ltb _ _ long, validity, not-false v is, ← el, not-true l e)
-
-      pub way-held : {k : Check} → not l ≡ false → k ≡ held_refusal form b t → k ≡ form_refusal form b t
-      way-held e h = h ∙ rw (le-ltb _ _ long, validity, not-false v is, ← el, not-false l e)
+  pub way-held : {k : Check} → l ≡ true → k ≡ held_refusal form b t → k ≡ form_refusal form b t
+  way-held e h = h ∙ rw (le-ltb _ _ long, validity, ← el, e)
 
 -- ---- the judgement of what it holds
 
@@ -68,20 +58,13 @@ module _ (form : ℕ) (b : List ℕ) (t : Tables) (c : MicroPriceConfig) (r : Re
   lengths : lent_wrong (states c) t ≡ w
   lengths = sym (ew ∙ ap (λ (k : ℕ). lent_wrong k t) en)
 
-  pub held-seven : w ≡ true → refusal 7 ≡ held_refusal form b t
-  held-seven e = (let g : refusal 7 ≡ held there = rw (lengths, e) in g) ∙ held-is
-
-  module _ {k : Bool} (right : w ≡ false) (ek : k ≡ broken c r.previous) where
-    pub held-eight : k ≡ true → refusal 8 ≡ held_refusal form b t
-    held-eight e = (let g : refusal 8 ≡ held there = rw (lengths, right, ← ek, e) in g) ∙ held-is
-
-    pub held-checked : {T : Tables} {x : Check} → k ≡ false → T ≡ there → x ≡ check_mirrored c (counts_of r.counters T)
-        → x ≡ held_refusal form b t
-    held-checked {T = T} e e_t ex =
-        ex ∙ (let g : check_mirrored c (counts_of r.counters T) ≡ held T = rw (lengths, right, ← ek, e) in g) ∙ ap held e_t ∙ held-is
+  pub held-checked : {k : Bool} → w ≡ false → k ≡ broken c r.previous → {T : Tables} {x : Check} → k ≡ false → T ≡ there
+      → x ≡ check_mirrored c (counts_of r.counters T) → x ≡ held_refusal form b t
+  held-checked right ek {T = T} e e_t ex =
+      ex ∙ (let g : check_mirrored c (counts_of r.counters T) ≡ held T = rw (lengths, right, ← ek, e) in g) ∙ ap held e_t ∙ held-is
 
 -- the three reads
-pub read_is : (form : ℕ) (b s m : List ℕ) (t : List ℤ) {C : ℕ} {s' m' : List ℕ} {t' : List ℤ} → Readable form b (length s) (length m) (length t)
+pub read_is : (form : ℕ) (b s m : List ℕ) (t : List ℤ) {C : ℕ} {s' m' : List ℕ} {t' : List ℤ} → Readable form b (tables s m t)
     → C ≡ length s → s' ≡ words_of (length s) (drop (header_length form) b) → m' ≡ words_of (length m) (drop (header_length form + 8 * C) b)
     → t' ≡ map untwos (words_of (length t) (drop (header_length form + 16 * C) b)) → tables s' m' t' ≡ (memory_in form b).counts.tables
 read_is form b s m t {C = C} r ec es em et =
@@ -102,9 +85,9 @@ read_is form b s m t {C = C} r ec es em et =
 
 -- restored
 pub way-restored : (b : List ℕ) (m : Memory Previous) {c : MicroPriceConfig} {r : Record} {s' m' : List ℕ} {t' : List ℤ}
-    → restore_refusal b m.counts.tables ≡ Fine → c ≡ config_in (form_in b) b → r ≡ record_in (form_in b) b
+    → restore_refusal b m.counts.tables ≡ Ok tt → c ≡ config_in (form_in b) b → r ≡ record_in (form_in b) b
     → tables s' m' t' ≡ (memory_in (form_in b) b).counts.tables
-    → end_restore (Config c) (memory r s' m' t') ≡ restored b m
+    → end_restore (Ok c) (memory r s' m' t') ≡ restored b m
 way-restored b m e ec er et =
-    (λ i. end_restore (Config (ec i)) (record { last = (er i).previous; counts = counts_of (er i).counters (et i) }))
-    ∙ (let g : end_restore (Config (config_in (form_in b) b)) (memory_in (form_in b) b) ≡ restored b m = rw e in g)
+    (λ i. end_restore (Ok (ec i)) (record { last = (er i).previous; counts = counts_of (er i).counters (et i) }))
+    ∙ (let g : end_restore (Ok (config_in (form_in b) b)) (memory_in (form_in b) b) ≡ restored b m = rw e in g)

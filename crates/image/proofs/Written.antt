@@ -1,8 +1,7 @@
--- The four stores of an image, the header and the three tables: each lies within the output, and together they write the image.
+-- The four stores of an image, the header and the three tables: together they write the image.
 use Prim.Native.Nat.{ℕ, ◌+◌, ◌*◌, ◌≤◌}
 use mathlib.Core.Path.{◌≡◌}
 use mathlib.Core.List.{List, [], map}
-use native.Mathlib.Omega.{arith}
 use lib.IntN.{ℤ}
 use lib.ListN.{length}
 use lib.Seq.{sets}
@@ -21,17 +20,8 @@ pub record Writable (form : ℕ) (c : MicroPriceConfig) (s m : List ℕ) (t : Li
   pub sizes : RightLengths (states c) (length s) (length m) (length t)
   pub long : length o ≡ image_length form c
 
--- o is the output as it came, o₁ to o₄ as each store leaves it (of length l₁ and so on), C the number of cells as code has it
+-- o is the output as it came, o₁ to o₄ as each store leaves it, C the number of cells as code has it
 module _ {form : ℕ} {c : MicroPriceConfig} {s m : List ℕ} {t : List ℤ} {o : List ℕ} (w : Writable form c s m t o) where
-  pub stay-inside : {l₁ : ℕ} → l₁ ≡ length o → header_length form + 8 * length s ≤ l₁
-  stay-inside e₁ = omega (arith, w.long, w.sizes.stay-cells)
-
-  pub moved_inside : {C l₁ l₂ : ℕ} → C ≡ cells c → l₁ ≡ length o → l₂ ≡ l₁ → header_length form + 8 * C + 8 * length m ≤ l₂
-  moved_inside ec e₁ e₂ = omega (arith, w.long, w.sizes.moved-cells)
-
-  pub totals-inside : {C l₁ l₂ l₃ : ℕ} → C ≡ cells c → l₁ ≡ length o → l₂ ≡ l₁ → l₃ ≡ l₂ → header_length form + 16 * C + 8 * length t ≤ l₃
-  totals-inside ec e₁ e₂ e₃ = omega (arith, w.long, w.sizes.totals-cells)
-
   pub image-written : oldest ≤ form → (r : Record) {C : ℕ} {h o₁ o₂ o₃ o₄ : List ℕ} → C ≡ cells c
       → h ≡ header form c r.previous (counts_of r.counters (tables [] [] []))
       → o₁ ≡ sets o 0 (bytes_of h) → o₂ ≡ sets o₁ (header_length form) (bytes_of s) → o₃ ≡ sets o₂ (header_length form + 8 * C) (bytes_of m)

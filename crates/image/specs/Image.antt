@@ -1,17 +1,17 @@
 -- Save and restore: document 01, "The image".
-use Rattle.std.specs.Prelude.{ℕ, Bool, not, List, ltb, eqb, length}
-use Rattle.refusals.specs.Refusals.{refuse_if, first_of}
-use Rattle.refusals.specs.declared.Check.{Check}
+use Rattle.std.specs.Prelude.{ℕ, Bool, not, List, ltb, eqb, length, Result, Ok, Err}
+use Rattle.refusals.specs.Refusals.{refuse_if, first_of, Check}
+use Rattle.refusals.specs.declared.Refusal.{Refusal}
 use Rattle.config.specs.Configuration.{states, check_config}
 use Rattle.config.specs.declared.MicroPriceConfig.{MicroPriceConfig}
 use Rattle.tally.specs.Entries.{Tables}
 use Rattle.tally.specs.Rules.{Memory}
 use Rattle.count_check.specs.Mirrors.{check_mirrored}
-use Rattle.calibrator.specs.Observe.{wrong_lengths, check_memory, broken}
-use Rattle.calibrator.specs.declared.Previous.{Previous}
-use Rattle.image_layout.specs.Layout.{oldest, newest, header_length, image_length, image, form_in, config_in, previous_in, memory_in, laid_out}
+use Rattle.calibrator.specs.Observe.{lent_wrong, check_memory, broken}
+use Rattle.calibrator.specs.Record.{Previous, memory_with}
+use Rattle.calibrator.specs.declared.Record.{Record}
 use Rattle.image.specs.declared.Restored.{Restored}
-use Rattle.image.specs.declared.Restored.TheVariants.{Config, Refused}
+use Rattle.image_layout.specs.Layout.{oldest, newest, header_length, image_length, image, form_in, config_in, previous_in, memory_in, laid_out}
 
 -- ---- save
 
@@ -32,8 +32,8 @@ end_save k out = record { answer = k; output = out }
 
 -- refused: the output unchanged; else the output is the image
 abbrev pub saved_unless : Check → List ℕ → List ℕ → Saved
-saved_unless Check.Fine before written = end_save Check.Fine written
-saved_unless (Check.Refused r) before written = end_save (Check.Refused r) before
+saved_unless (Ok _) before written = end_save (Ok tt) written
+saved_unless (Err r) before written = end_save (Err r) before
 
 abbrev pub saved : MicroPriceConfig → Memory Previous → List ℕ → Saved
 saved c m out = saved_unless (save_refusal c m (length out)) out (image newest c m)
@@ -43,10 +43,6 @@ saved c m out = saved_unless (save_refusal c m (length out)) out (image newest c
 -- 12: under 160 bytes
 abbrev pub too_short : List ℕ → Bool
 too_short b = ltb (length b) (header_length oldest)
-
--- 7: the lent tables do not have the lengths of N states
-abbrev pub lent_wrong : ℕ → Tables → Bool
-lent_wrong N t = wrong_lengths N (length t.stay) (length t.moved) (length t.totals)
 
 -- 7, 8, then 6, 9, 10, 11 on what an image of the form holds
 abbrev pub held_refusal : ℕ → List ℕ → Tables → Check
@@ -66,16 +62,21 @@ restore_refusal b t = form_refusal (form_in b) b t
 
 -- an answer and the memory that it leaves
 pub record Taken : Type 0 where
-  pub answer : Restored
+  pub answer : Result MicroPriceConfig Refusal
   pub left : Memory Previous
 
-abbrev pub end_restore : Restored → Memory Previous → Taken
+abbrev pub end_restore : Result MicroPriceConfig Refusal → Memory Previous → Taken
 end_restore a m = record { answer = a; left = m }
+
+-- of the work by value: the configuration and the record of the image; or a refusal, and the record as it was given
+abbrev pub restored_by : Record → Result Restored Refusal → Tables → Taken
+restored_by before (Ok x) t = end_restore (Ok x.config) (memory_with x.rec t)
+restored_by before (Err r) t = end_restore (Err r) (memory_with before t)
 
 -- refused: record and tables unchanged; else it answers the configuration, and they hold what the image holds
 abbrev pub taken_unless : Check → List ℕ → Memory Previous → Taken
-taken_unless Check.Fine b m = end_restore (Config (config_in (form_in b) b)) (memory_in (form_in b) b)
-taken_unless (Check.Refused r) b m = end_restore (Refused r) m
+taken_unless (Ok _) b m = end_restore (Ok (config_in (form_in b) b)) (memory_in (form_in b) b)
+taken_unless (Err r) b m = end_restore (Err r) m
 
 abbrev pub restored : List ℕ → Memory Previous → Taken
 restored b m = taken_unless (restore_refusal b m.counts.tables) b m

@@ -1,99 +1,80 @@
-// The work by value, for Rattle callers, and the functions that it is made of. `save`, `restore` and `check_restore` ask nothing; where another has a `requires`, each caller proves it.
+// The work by value, for Rattle callers, and the functions that it is made of. Beside the operations, which are thin over it: docs/DECISIONS.md.
+// `save`, `restore` and `check_restore` ask nothing; where another has a `requires`, each caller proves it.
 ghost use Rattle.std.specs.Prelude.{◌≡◌, false, ◌+◌, ◌*◌, ◌≤◌, ◌<◌, length};
 ghost use Rattle.config.specs.Configuration.{states};
 ghost use Rattle.config.specs.Inner.{Valid};
-ghost use Rattle.tally.specs.Entries.{tables};
-ghost use Rattle.calibrator.specs.Record.{memory};
-ghost use Rattle.calibrator.specs.Observe.{broken, wrong_lengths};
+ghost use Rattle.tally.specs.Lent.{tables_of, tables_in, SameSlices};
+ghost use Rattle.calibrator.specs.Record.{memory_with};
+ghost use Rattle.calibrator.specs.Observe.{broken, lent_wrong};
 ghost use Rattle.image_layout.specs.Layout.{newest, image_length, image, config_in, record_in, memory_in};
-ghost use Rattle.image.specs.Image.{end_save, saved, save_refusal, end_restore, restored, held_refusal, restore_refusal};
+ghost use Rattle.image.specs.Image.{end_save, saved, save_refusal, restored, held_refusal, restore_refusal, restored_by};
 ghost use Rattle.image.specs.Inner.{Readable};
+ghost use Rattle.calibrator.specs.declared.Record.{Record};
 
-use super::{RestoreDone, Restored};
-use calibrator::{Previous, Record};
+use super::Restored;
+use calibrator::Record;
 use config::MicroPriceConfig;
-use refusals::{Check, Refusal};
+use quotes::TopOfBook;
+use refusals::Refusal;
+use tally::{LentTables, TablesView};
 
 // Whether a last quote would be refused by 2, 3 or 4.
-fn is_broken(config: MicroPriceConfig, previous: Previous) -> bool
+fn is_broken(config: MicroPriceConfig, previous: Option<TopOfBook>) -> bool
     requires { 1 ≤ config.tick_size }
     ensures { result ≡ broken config previous }
 {
     match previous {
-        Previous::Nothing => false,
-        Previous::Quoted(q) => match quotes::inner::check_quote(config, q) {
-            Check::Fine => false,
-            Check::Refused(_) => true,
-        },
+        None => false,
+        Some(q) => quotes::inner::check_quote(config, q).is_err(),
     }
 }
 
 fn check_save(
     rec: Record,
-    stay: &[u64],
-    moved: &[u64],
-    move_half_ticks: &[i64],
+    tables: TablesView<'_>,
     config: MicroPriceConfig,
     long: usize,
-) -> Check
-    ensures { result ≡ save_refusal config (memory rec stay.now moved.now move_half_ticks.now) long }
+) -> Result<(), Refusal>
+    ensures { result ≡ save_refusal config (memory_with rec (tables_in tables.entry)) long }
 {
-    let lengths = calibrator::inner::check_table_lengths(
-        config,
-        stay.len(),
-        moved.len(),
-        move_half_ticks.len(),
-    );
-    let Check::Fine = lengths else {
-        return lengths;
-    };
+    calibrator::inner::check_table_lengths(config, tables)?;
     if long != image_layout::image_length(config) {
-        return Check::Refused(Refusal::SliceLength);
+        return Err(Refusal::SliceLength);
     }
-    let previous = rec.previous;
-    if is_broken(config, previous) {
-        return Check::Refused(Refusal::LastQuoteBroken);
+    if is_broken(config, rec.previous) {
+        return Err(Refusal::LastQuoteBroken);
     }
-    let counters = rec.counters;
-    count_check::check_mirrored_counts(config, counters, stay, moved, move_half_ticks)
+    count_check::check_tables(config, rec.counters, &tables)
 }
 
-fn write_image(
-    rec: Record,
-    stay: &[u64],
-    moved: &[u64],
-    move_half_ticks: &[i64],
-    config: MicroPriceConfig,
-    out: &mut [u8],
-)
-    requires { Valid config × (wrong_lengths (states config) (length stay.now) (length moved.now) (length move_half_ticks.now) ≡ false) × (length out.old ≡ image_length newest config) }
-    ensures { out.new ≡ image newest config (memory rec stay.now moved.now move_half_ticks.now) }
+fn write_image(rec: Record, tables: TablesView<'_>, config: MicroPriceConfig, out: &mut [u8])
+    requires { Valid config × (lent_wrong (states config) (tables_in tables) ≡ false) × (length out.old ≡ image_length newest config) }
+    ensures { out.new ≡ image newest config (memory_with rec (tables_in tables.entry)) }
 {
     let cells = image_layout::cell_count(config);
     let h = image_layout::header_words(config, rec);
     image_words::put_table(out, 0, &h);
-    image_words::put_table(out, image_layout::HEADER, stay);
-    image_words::put_table(out, image_layout::HEADER + 8 * cells, moved);
-    image_words::put_totals(out, image_layout::HEADER + 16 * cells, move_half_ticks);
+    image_words::put_table(out, image_layout::HEADER, tables.stay);
+    image_words::put_table(out, image_layout::HEADER + 8 * cells, tables.moved);
+    image_words::put_table(
+        out,
+        image_layout::HEADER + 16 * cells,
+        tables.move_half_ticks,
+    );
 }
 
 // The work of `save` on a record by value.
 pub fn save(
     rec: Record,
-    stay: &[u64],
-    moved: &[u64],
-    move_half_ticks: &[i64],
+    tables: TablesView<'_>,
     config: MicroPriceConfig,
     out: &mut [u8],
-) -> Check
-    ensures { end_save result out.new ≡ saved config (memory rec stay.now moved.now move_half_ticks.now) out.old }
+) -> Result<(), Refusal>
+    ensures { end_save result out.new ≡ saved config (memory_with rec (tables_in tables.entry)) out.old }
 {
-    let k = check_save(rec, stay, moved, move_half_ticks, config, out.len());
-    let Check::Fine = k else {
-        return k;
-    };
-    write_image(rec, stay, moved, move_half_ticks, config, out);
-    k
+    check_save(rec, tables, config, out.len())?;
+    write_image(rec, tables, config, out);
+    Ok(())
 }
 
 // 7, 8, then 6, 9, 10, 11, on an image whose header is judged.
@@ -101,91 +82,64 @@ fn check_held(
     b: &[u8],
     config: MicroPriceConfig,
     rec: Record,
-    stay: &[u64],
-    moved: &[u64],
-    move_half_ticks: &[i64],
-) -> Check
+    tables: TablesView<'_>,
+) -> Result<(), Refusal>
     requires { Valid config × (config ≡ config_in newest b.now) × (rec ≡ record_in newest b.now) × (length b.now ≡ image_length newest config) }
-    ensures { result ≡ held_refusal newest b.now (tables stay.now moved.now move_half_ticks.now) }
+    ensures { result ≡ held_refusal newest b.now (tables_in tables.entry) }
 {
     let n = config::inner::state_count(config);
-    if calibrator::inner::wrong_lengths(n, stay.len(), moved.len(), move_half_ticks.len()) {
-        return Check::Refused(Refusal::SliceLength);
+    if calibrator::inner::wrong_lengths(n, tables) {
+        return Err(Refusal::SliceLength);
     }
-    let previous = rec.previous;
-    if is_broken(config, previous) {
-        return Check::Refused(Refusal::LastQuoteBroken);
+    if is_broken(config, rec.previous) {
+        return Err(Refusal::LastQuoteBroken);
     }
-    let counters = rec.counters;
     let cells = image_layout::cell_count(config);
     let moved_at = image_layout::HEADER + 8 * cells;
     let totals_at = image_layout::HEADER + 16 * cells;
-    let sb = &b[image_layout::HEADER..moved_at];
-    let mb = &b[moved_at..totals_at];
-    let tb = &b[totals_at..];
-    count_check::check_tables(
-        config,
-        counters,
-        stay,
-        moved,
-        move_half_ticks,
-        sb,
-        mb,
-        tb,
-        true,
-    )
+    let imaged = count_check::Imaged {
+        stay: &b[image_layout::HEADER..moved_at],
+        moved: &b[moved_at..totals_at],
+        move_half_ticks: &b[totals_at..],
+    };
+    count_check::check_tables(config, rec.counters, &imaged)
 }
 
 // What refuses an image, judged on its bytes before anything is written.
-pub fn check_restore(b: &[u8], stay: &[u64], moved: &[u64], move_half_ticks: &[i64]) -> Check
-    ensures { result ≡ restore_refusal b.now (tables stay.now moved.now move_half_ticks.now) }
+pub fn check_restore(b: &[u8], tables: TablesView<'_>) -> Result<(), Refusal>
+    ensures { result ≡ restore_refusal b.now (tables_in tables.entry) }
 {
     if b.len() < image_layout::LEAST {
-        return Check::Refused(Refusal::ImageLayout);
+        return Err(Refusal::ImageLayout);
     }
     let config = image_layout::config_in(b);
-    if !config::inner::is_valid(config) {
-        return Check::Refused(Refusal::Configuration);
-    }
+    config.validate()?;
     let rec = image_layout::record_in(b);
     if !image_layout::is_laid_out(b, config, rec) {
-        return Check::Refused(Refusal::ImageLayout);
+        return Err(Refusal::ImageLayout);
     }
-    check_held(b, config, rec, stay, moved, move_half_ticks)
+    check_held(b, config, rec, tables)
 }
 
-fn read_tables(b: &[u8], stay: &mut [u64], moved: &mut [u64], move_half_ticks: &mut [i64])
-    requires { Readable newest b.now (length stay.old) (length moved.old) (length move_half_ticks.old) }
-    ensures { tables stay.new moved.new move_half_ticks.new ≡ (memory_in newest b.now).counts.tables }
+fn read_tables(b: &[u8], tables: &mut LentTables<'_>)
+    requires { Readable newest b.now (tables_of tables.old) }
+    ensures read { tables_of tables.new ≡ (memory_in newest b.now).counts.tables }
+    ensures same_slices { SameSlices tables.old tables.new }
 {
-    let cells = stay.len();
-    image_words::get_table(b, image_layout::HEADER, stay);
-    image_words::get_table(b, image_layout::HEADER + 8 * cells, moved);
-    image_words::get_totals(b, image_layout::HEADER + 16 * cells, move_half_ticks);
+    let cells = tables.stay.len();
+    image_words::get_table(b, image_layout::HEADER, tables.stay);
+    image_words::get_table(b, image_layout::HEADER + 8 * cells, tables.moved);
+    image_words::get_table(b, image_layout::HEADER + 16 * cells, tables.move_half_ticks);
 }
 
-// The work of `restore` on a record by value.
-pub fn restore(
-    rec: Record,
-    image: &[u8],
-    stay: &mut [u64],
-    moved: &mut [u64],
-    move_half_ticks: &mut [i64],
-) -> RestoreDone
-    ensures { end_restore result.answer (memory result.next stay.new moved.new move_half_ticks.new) ≡ restored image.now (memory rec stay.old moved.old move_half_ticks.old) }
+// The work of `restore`: the configuration and the record of the image.
+pub fn restore(image: &[u8], tables: &mut LentTables<'_>) -> Result<Restored, Refusal>
+    ensures left { (rec : Record) → restored_by rec result (tables_of tables.new) ≡ restored image.now (memory_with rec (tables_of tables.old)) }
+    ensures same_slices { SameSlices tables.old tables.new }
 {
-    let k = check_restore(image, stay, moved, move_half_ticks);
-    if let Check::Refused(refusal) = k {
-        return RestoreDone {
-            answer: Restored::Refused(refusal),
-            next: rec,
-        };
-    }
+    check_restore(image, tables.view())?;
     let config = image_layout::config_in(image);
-    let next = image_layout::record_in(image);
-    read_tables(image, stay, moved, move_half_ticks);
-    RestoreDone {
-        answer: Restored::Config(config),
-        next,
-    }
+    let rec = image_layout::record_in(image);
+    read_tables(image, tables);
+    Ok(Restored { config, rec })
 }

@@ -3,53 +3,45 @@
 
 use calibrator::Record;
 use config::MicroPriceConfig;
-use refusals::{Check, Refusal};
+use refusals::Refusal;
+use tally::{LentTables, TablesView};
 
 pub mod inner;
 
 ghost use Rattle.std.specs.Prelude.{◌≡◌};
-ghost use Rattle.calibrator.specs.Record.{memory};
+ghost use Rattle.tally.specs.Lent.{tables_of, tables_in, SameSlices};
+ghost use Rattle.calibrator.specs.Record.{memory_with};
 ghost use Rattle.image.specs.Image.{end_save, saved, end_restore, restored};
 
-// What restore answers.
+// What an image holds beside its tables.
 #[derive(Clone, Copy)]
-pub enum Restored {
-    Config(MicroPriceConfig),
-    Refused(Refusal),
-}
-
-// An answer with the record as it is left.
-#[derive(Clone, Copy)]
-pub struct RestoreDone {
-    pub answer: Restored,
-    pub next: Record,
+pub struct Restored {
+    pub config: MicroPriceConfig,
+    pub rec: Record,
 }
 
 // Writes the image of a calibrator.
 pub fn save(
     rec: &Record,
-    stay: &[u64],
-    moved: &[u64],
-    move_half_ticks: &[i64],
+    tables: TablesView<'_>,
     config: MicroPriceConfig,
     out: &mut [u8],
-) -> Check
-    ensures { end_save result out.new ≡ saved config (memory rec.now stay.now moved.now move_half_ticks.now) out.old }
+) -> Result<(), Refusal>
+    ensures { end_save result out.new ≡ saved config (memory_with rec.now (tables_in tables.entry)) out.old }
 {
-    inner::save(*rec, stay, moved, move_half_ticks, config, out)
+    inner::save(*rec, tables, config, out)
 }
 
 // Takes an image back: answers its configuration, and fills the record and the tables.
 pub fn restore(
     rec: &mut Record,
     image: &[u8],
-    stay: &mut [u64],
-    moved: &mut [u64],
-    move_half_ticks: &mut [i64],
-) -> Restored
-    ensures { end_restore result (memory rec.new stay.new moved.new move_half_ticks.new) ≡ restored image.now (memory rec.old stay.old moved.old move_half_ticks.old) }
+    tables: &mut LentTables<'_>,
+) -> Result<MicroPriceConfig, Refusal>
+    ensures left { end_restore result (memory_with rec.new (tables_of tables.new)) ≡ restored image.now (memory_with rec.old (tables_of tables.old)) }
+    ensures same_slices { SameSlices tables.old tables.new }
 {
-    let done = inner::restore(*rec, image, stay, moved, move_half_ticks);
-    *rec = done.next;
-    done.answer
+    let taken = inner::restore(image, tables)?;
+    *rec = taken.rec;
+    Ok(taken.config)
 }

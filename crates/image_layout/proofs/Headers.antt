@@ -1,13 +1,13 @@
 -- The header's words compared with those of h, from the first one on, and the judgement of the layout.
-use Prim.Native.Nat.{ℕ, suc, ◌+◌, ◌-◌, ◌*◌, ◌/◌, ◌<◌, ◌≤◌}
+use Prim.Native.Nat.{ℕ, suc, ◌+◌, ◌-◌, ◌*◌, ◌/◌, ◌<◌}
 use mathlib.Core.Path.{◌≡◌, refl, sym, ap, ◌∙◌}
 use mathlib.Core.Bool.{Bool, true, false, ◌&&◌, true≢false}
 use mathlib.Core.List.{List, [], ◌∷◌}
 use native.Mathlib.Omega.{arith}
 use lib.Dec.{eqb}
-use lib.ListN.{length, get_or, drop, drop_of_length-le}
+use lib.ListN.{length, get_or, drop}
 use lib.Seq.{drop-cons, drop-drop}
-use borrow.Author.Tests.{eqb-true, eq-eqb, ne_eqb}
+use borrow.Author.Tests.{eqb-true, eq-eqb}
 use Rattle.basics.proofs.Lists.{same-equal}
 use Rattle.basics.proofs.Tests.{fails}
 use Rattle.basics.specs.Lists.{same_words}
@@ -16,8 +16,7 @@ use Rattle.image_words.proofs.Laws.{words-at}
 use Rattle.config.specs.declared.MicroPriceConfig.{MicroPriceConfig}
 use Rattle.tally.specs.Entries.{tables}
 use Rattle.tally.specs.Events.{Counts}
-use Rattle.calibrator.specs.Record.{counts_of}
-use Rattle.calibrator.specs.declared.Previous.{Previous}
+use Rattle.calibrator.specs.Record.{counts_of, Previous}
 use Rattle.calibrator.specs.declared.Record.{Record}
 use Rattle.image_layout.specs.Layout.{newest, is_read, image_length, header, form_in, config_in, record_in, header_in, laid_out}
 
@@ -39,18 +38,10 @@ module _ (b h : List ℕ) where
       drop-drop 8 (8 * i) b ∙ ap (λ (j : ℕ). drop j b) (let s : 8 * i + 8 ≡ 8 * (i + 1) = omega arith in s) in
       rw (n, d, w)
 
-  -- a turn of the walk: the word w that is read at i differs from the one in h, or is that one
+  -- a turn of the walk: the word w that is read at i is the one in h
   module _ (i : ℕ) {w : ℕ} (l : i < length h) (ew : w ≡ word_at b (8 * i)) where
-    pub same_differs : (w ≡ get_or h i 0 → ⊥) → same_from i ≡ false
-    same_differs n = same_step i l ∙ rw (← ew, ne_eqb w (get_or h i 0) n)
-
     pub same-agrees : w ≡ get_or h i 0 → same_from i ≡ same_from (i + 1)
     same-agrees f = same_step i l ∙ rw (← ew, eq-eqb w (get_or h i 0) f)
-
-  pub same_end : (i : ℕ) → length h ≤ i → same_from i ≡ true
-  same_end i l =
-      let n : length h - i ≡ 0 = omega arith in
-      rw (n, drop_of_length-le h {i = i} l)
 
 -- ---- the test of the layout
 

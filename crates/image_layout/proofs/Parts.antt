@@ -14,10 +14,9 @@ use Rattle.config.specs.Configuration.{states}
 use Rattle.config.specs.declared.MicroPriceConfig.{MicroPriceConfig}
 use Rattle.tally.specs.Entries.{Tables, tables}
 use Rattle.tally.specs.Events.{Counts}
-use Rattle.calibrator.specs.Record.{counts_of, memory}
+use Rattle.calibrator.specs.Record.{counts_of, memory, Previous}
 use Rattle.calibrator.specs.declared.Counters.{Counters}
-use Rattle.calibrator.specs.declared.Previous.{Previous}
-use Rattle.calibrator.specs.declared.Previous.TheVariants.{Nothing, Quoted}
+use Rattle.std.specs.Prelude.{Some, None}
 use Rattle.calibrator.specs.declared.Record.{Record}
 use Rattle.calibrator.proofs.Lengths.{RightLengths}
 use Rattle.image_layout.specs.Layout.{oldest, header_length, cells, image_length, previous_words, further, header, image}
@@ -54,13 +53,13 @@ four-parts form o h s m t C N eh es em et eo =
 -- a header has the words of its form
 pub length-header : (form : ℕ) → oldest ≤ form → (c : MicroPriceConfig) (l : Previous) (k : Counts) → length (header form c l k) ≡ form
 unfolding header
-length-header form least c Nothing k = omega (arith, length-replicate {A = ℕ} (form - oldest) 0)
-length-header form least c (Quoted q) k = omega (arith, length-replicate {A = ℕ} (form - oldest) 0)
+length-header form least c None k = omega (arith, length-replicate {A = ℕ} (form - oldest) 0)
+length-header form least c (Some q) k = omega (arith, length-replicate {A = ℕ} (form - oldest) 0)
 
 six : (l : Previous) (q rest : List ℕ) → q ≡ previous_words l
     → get_or q 0 0 ∷ get_or q 1 0 ∷ get_or q 2 0 ∷ get_or q 3 0 ∷ get_or q 4 0 ∷ get_or q 5 0 ∷ rest ≡ previous_words l ++ rest
-six Nothing q rest e = rw e
-six (Quoted p) q rest e = rw e
+six None q rest e = rw e
+six (Some p) q rest e = rw e
 
 -- the header's words as code lists them
 pub header_is : (form : ℕ) (c : MicroPriceConfig) (l : Previous) (k : Counters) (t : Tables) (n C : ℕ) (q : List ℕ) → n ≡ states c → C ≡ cells c

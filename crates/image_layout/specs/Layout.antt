@@ -1,5 +1,5 @@
 -- The words and bytes of an image, written and read: document 01, "The image".
-use Rattle.std.specs.Prelude.{ℕ, ◌+◌, ◌*◌, ◌-◌, ◌/◌, Bool, cond, ◌&&◌, List, [], ◌∷◌, ◌++◌, map, eqb, length, drop, replicate}
+use Rattle.std.specs.Prelude.{ℕ, ◌+◌, ◌*◌, ◌-◌, ◌/◌, Bool, cond, ◌&&◌, List, [], ◌∷◌, ◌++◌, map, eqb, length, drop, replicate, Some, None}
 use Rattle.basics.specs.Lists.{same_words}
 use Rattle.image_words.specs.Words.{bytes_of, words_of, word_at, twos, untwos}
 use Rattle.config.specs.Configuration.{states, config_of}
@@ -9,9 +9,7 @@ use Rattle.quotes.specs.declared.TopOfBook.{TopOfBook}
 use Rattle.tally.specs.Entries.{Tables, tables}
 use Rattle.tally.specs.Events.{Counts}
 use Rattle.tally.specs.Rules.{Memory}
-use Rattle.calibrator.specs.Record.{skipped, memory}
-use Rattle.calibrator.specs.declared.Previous.{Previous}
-use Rattle.calibrator.specs.declared.Previous.TheVariants.{Nothing, Quoted}
+use Rattle.calibrator.specs.Record.{skipped, memory, Previous}
 use Rattle.calibrator.specs.declared.Record.{Record}
 
 -- ---- the forms of a header
@@ -44,8 +42,8 @@ image_length form c = header_length form + 16 * cells c + 8 * states c
 
 -- 1 if a last quote follows else 0, its five words (else zeros)
 abbrev pub previous_words : Previous → List ℕ
-previous_words Nothing = 0 ∷ 0 ∷ 0 ∷ 0 ∷ 0 ∷ 0 ∷ []
-previous_words (Quoted q) = 1 ∷ q.timestamp_ms ∷ q.bid ∷ q.ask ∷ q.bid_size ∷ q.ask_size ∷ []
+previous_words None = 0 ∷ 0 ∷ 0 ∷ 0 ∷ 0 ∷ 0 ∷ []
+previous_words (Some q) = 1 ∷ q.timestamp_ms ∷ q.bid ∷ q.ask ∷ q.bid_size ∷ q.ask_size ∷ []
 
 -- what a form has past the twenty words: none that is written or read has any, another would hold zeros
 abbrev pub further : ℕ → List ℕ
@@ -90,7 +88,7 @@ quote_in b =
     record { timestamp_ms = word b 10; bid = word b 11; ask = word b 12; bid_size = word b 13; ask_size = word b 14 }
 
 abbrev pub previous_in : List ℕ → Previous
-previous_in b = cond (eqb (word b 9) 1) (Quoted (quote_in b)) Nothing
+previous_in b = cond (eqb (word b 9) 1) (Some (quote_in b)) None
 
 abbrev pub record_in : ℕ → List ℕ → Record
 record_in form b =

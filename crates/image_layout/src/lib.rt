@@ -8,7 +8,7 @@ ghost use Rattle.calibrator.specs.Record.{counts_of};
 ghost use Rattle.basics.specs.Lists.{same_words};
 ghost use Rattle.image_layout.specs.Layout.{oldest, newest, header_length, cells, image_length, previous_words, header, form_in, config_in, quote_in, previous_in, record_in, header_in, laid_out};
 
-use calibrator::{Counters, Previous, Record};
+use calibrator::{Counters, Record};
 use config::MicroPriceConfig;
 use quotes::TopOfBook;
 
@@ -31,12 +31,12 @@ pub fn cell_count(config: MicroPriceConfig) -> usize
     n * n
 }
 
-pub fn previous_words(previous: Previous) -> [u64; 6]
+pub fn previous_words(previous: Option<TopOfBook>) -> [u64; 6]
     ensures { result ≡ previous_words previous }
 {
     match previous {
-        Previous::Nothing => [0, 0, 0, 0, 0, 0],
-        Previous::Quoted(q) => [1, q.timestamp_ms, q.bid, q.ask, q.bid_size, q.ask_size],
+        None => [0; 6],
+        Some(q) => [1, q.timestamp_ms, q.bid, q.ask, q.bid_size, q.ask_size],
     }
 }
 
@@ -47,8 +47,7 @@ pub fn header_words(config: MicroPriceConfig, rec: Record) -> [u64; FORM]
     let n = config::inner::state_count(config) as u64;
     let cells = cell_count(config) as u64;
     let start = HEADER as u64;
-    let previous = rec.previous;
-    let q = previous_words(previous);
+    let q = previous_words(rec.previous);
     let k = rec.counters;
     [
         n,
@@ -112,15 +111,15 @@ fn quote_in(b: &[u8]) -> TopOfBook
     }
 }
 
-fn previous_in(b: &[u8]) -> Previous
+fn previous_in(b: &[u8]) -> Option<TopOfBook>
     requires { header_length oldest ≤ length b.now }
     ensures { result ≡ previous_in b.now }
 {
     let flag = image_words::get_word(b, 72);
     if flag == 1 {
-        return Previous::Quoted(quote_in(b));
+        return Some(quote_in(b));
     }
-    Previous::Nothing
+    None
 }
 
 pub fn record_in(b: &[u8]) -> Record
@@ -147,12 +146,10 @@ fn same_words(b: &[u8], h: &[u64]) -> bool
     requires { header_length (length h.now) ≤ length b.now }
     ensures { result ≡ same_words (header_in (length h.now) b.now) h.now }
 {
-    let mut i: usize = 0;
-    while i < h.len() {
-        if image_words::get_word(b, 8 * i) != h[i] {
+    for (i, word) in h.iter().enumerate() {
+        if image_words::get_word(b, 8 * i) != *word {
             return false;
         }
-        i += 1;
     }
     true
 }

@@ -1,11 +1,13 @@
 -- Stores of words, byte by byte, and their reading.
 use mathlib.Core.Path.{◌≡◌, refl, sym, ◌∙◌, ap}
-use mathlib.Core.List.{List, [], ◌∷◌, ◌++◌}
-use Prim.Native.Nat.{ℕ, zero, suc, ◌+◌, ◌*◌, ◌-◌, ◌/◌, ◌%◌, ◌<◌, ◌≤◌, ◌^◌}
-use native.Mathlib.Nat.{div-add-mod', pow-suc, pow-le-pow_right}
+use mathlib.Core.List.{List, [], ◌∷◌, ◌++◌, append_assoc}
+use Prim.Native.Nat.{ℕ, zero, suc, ◌+◌, ◌*◌, ◌/◌, ◌%◌, ◌<◌, ◌≤◌, ◌^◌}
+use native.Mathlib.Nat.{div-add-mod', div-one, div-div-eq-div-mul, pow-suc}
 use native.Mathlib.Omega.{arith}
 use lib.ListN.{length, get_or, take, drop, set, length-append, drop_of_length-le}
-use lib.Seq.{sets, drop-cons, take_all, drop-drop, take-suc-set, take-suc}
+use lib.Seq.{sets, sets-eq, drop-cons, take_all, drop-drop, take-suc-set, take-suc}
+use borrow.Rule.Slice.PartMut.{put_mid}
+use Rattle.std.specs.Int.{w64, byte_at, bytes_low_first, to_le_bytes}
 use Rattle.basics.proofs.Stores.{sets-append}
 use Rattle.image_words.specs.Words.{digits, value, bytes_of, words_of, word_at}
 
@@ -26,13 +28,27 @@ length-bytes (w ∷ ws) = length-append (digits 8 w) (bytes_of ws) ∙ omega (ar
 
 -- ---- stores one after another
 
--- a byte of a word, and those that are left
-pub put_step : (out : List ℕ) (at k x : ℕ) → k < 8
-    → sets (set out (at + k) (x % 256)) (at + (k + 1)) (digits (8 - (k + 1)) (x / 256)) ≡ sets out (at + k) (digits (8 - k) x)
-put_step out at k x h =
-    let e : 8 - k ≡ suc (8 - (k + 1)) = omega arith in
-    let f : at + (k + 1) ≡ suc (at + k) = omega arith in
-    ap (λ (j : ℕ). sets (set out (at + k) (x % 256)) j (digits (8 - (k + 1)) (x / 256))) f ∙ sym (ap (λ (j : ℕ). sets out (at + k) (digits j x)) e)
+-- the library's bytes of a word, the least first
+low-first : (i k w : ℕ) → bytes_low_first i k w ≡ digits k (w / 256 ^ i)
+low-first i zero w = refl
+low-first i (suc k) w =
+    let r : w / 256 ^ suc i ≡ w / 256 ^ i / 256 = ap (λ (n : ℕ). w / n) (pow-suc 256 i) ∙ sym (div-div-eq-div-mul w (256 ^ i) 256) in
+    λ t. here i t ∷ (low-first (suc i) k w ∙ ap (digits k) r) t
+  where
+    here : (j : ℕ) → byte_at j w ≡ w / 256 ^ j % 256
+    here zero = ap (λ (n : ℕ). n % 256) (sym (div-one w))
+    here (suc j) = refl
+
+-- and the word's place in the output after they are copied there
+pub put-bytes : (out : List ℕ) (at k w : ℕ) (bs : List ℕ) → bs ≡ to_le_bytes w64 w → k ≡ 8 → at + 8 ≤ length out
+    → put_mid at k out bs ≡ sets out at (digits 8 w)
+put-bytes out at k w bs e f h =
+    let d : bs ≡ digits 8 w = e ∙ low-first 0 8 w ∙ ap (digits 8) (div-one w) in
+    let n : at + length (digits 8 w) ≤ length out = omega (arith, length_digits 8 w) in
+    let r : drop k (drop at out) ≡ drop (at + length (digits 8 w)) out =
+    drop-drop k at out ∙ ap (λ (j : ℕ). drop j out) (let g : at + k ≡ at + length (digits 8 w) = omega (arith, length_digits 8 w) in g) in
+    let p : sets out at (digits 8 w) ≡ take at out ++ (digits 8 w ++ drop (at + length (digits 8 w)) out) = rw append_assoc at (sets-eq (digits 8 w) out at n) in
+    (λ i. take at out ++ (d i ++ r i)) ∙ sym p
 
 -- a word of a table, and those that are left
 pub table_step : (out : List ℕ) (at i : ℕ) (t : List ℕ) → i < length t
@@ -49,30 +65,6 @@ pub table-end : (out : List ℕ) (at i : ℕ) (t : List ℕ) → length t ≤ i 
 table-end out at i t h = ap (λ (r : List ℕ). sets out (at + 8 * i) (bytes_of r)) (drop_of_length-le t h)
 
 -- ---- reading
-
-pub value-step : (l : List ℕ) (j n : ℕ) → j < length l → value (take (suc n) (drop j l)) ≡ get_or l j 0 + 256 * value (take n (drop (suc j) l))
-value-step l j n h = ap (λ (r : List ℕ). value (take (suc n) r)) (drop-cons l j 0 h)
-
-pub get-step : (l : List ℕ) (at k w b : ℕ) → k ≤ 8 → 0 < k → at + 8 ≤ length l → w ≡ value (take (8 - k) (drop (at + k) l)) → b ≡ get_or l (at + (k - 1)) 0
-    → w * 256 + b ≡ value (take (8 - (k - 1)) (drop (at + (k - 1)) l))
-get-step l at k w b h p r e f =
-    let g : 8 - (k - 1) ≡ suc (8 - k) = omega arith in
-    let s : suc (at + (k - 1)) ≡ at + k = omega arith in
-    let v : value (take (8 - (k - 1)) (drop (at + (k - 1)) l)) ≡ get_or l (at + (k - 1)) 0 + 256 * value (take (8 - k) (drop (at + k) l)) =
-    ap (λ (j : ℕ). value (take j (drop (at + (k - 1)) l))) g
-    ∙ value-step l (at + (k - 1)) (8 - k) (omega arith)
-    ∙ ap (λ (j : ℕ). get_or l (at + (k - 1)) 0 + 256 * value (take (8 - k) (drop j l))) s in
-    omega arith
-
-pub get-bound : (k w b : ℕ) → k ≤ 8 → 0 < k → w < 256 ^ (8 - k) → b < 256 → w * 256 + b < 256 ^ (8 - (k - 1))
-get-bound k w b h p e f =
-    let g : 256 ^ (8 - (k - 1)) ≡ 256 ^ (8 - k) * 256 = ap (λ (j : ℕ). 256 ^ j) (let s : 8 - (k - 1) ≡ suc (8 - k) = omega arith in s) ∙ pow-suc 256 (8 - k) in
-    omega arith
-
-pub get-most : (k w : ℕ) → 0 < k → w < 256 ^ (8 - k) → w < 2 ^ 56
-get-most k w p e =
-    let h : 256 ^ (8 - k) ≤ 256 ^ 7 = pow-le-pow_right {n = 256} (omega arith) {i = 8 - k} {j = 7} (omega arith) in
-    omega arith
 
 pub words-at : (n i : ℕ) (bs : List ℕ) → i < n → get_or (words_of n bs) i 0 ≡ word_at bs (8 * i)
 words-at zero i bs h = absurd (omega arith)

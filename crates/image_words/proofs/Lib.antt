@@ -1,5 +1,4 @@
 pub mod Laws
-pub mod Signed
 pub mod Round
 pub mod Tables
 pub mod Words

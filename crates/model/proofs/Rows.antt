@@ -1,39 +1,32 @@
 -- Rows of the model table, written and read back.
-use mathlib.Core.Path.{◌≡◌, refl, ap, ◌∙◌}
+use mathlib.Core.Path.{◌≡◌, refl, sym, ap, ◌∙◌}
 use mathlib.Core.Bool.{not}
 use mathlib.Core.Logic.{◌≢◌, ◌⊎◌, inl, inr}
-use mathlib.Core.List.{List, [], ◌∷◌}
+use mathlib.Core.List.{List, [], ◌∷◌, ◌++◌}
 use Prim.Native.Nat.{ℕ, zero, suc, ◌+◌, ◌*◌, ◌<◌, ◌≤◌, ◌^◌}
-use native.Mathlib.Numerals.{unary_clauses}
 use native.Mathlib.Omega.{arith}
 use lib.Dec.{T}
 use lib.Ieee.{Float, nan, inf, fin, binary64, fits, is_nan}
 use lib.Ieee.Bits.{of_bits-to_bits, to_bits-of_bits, of_bits-fits}
-use lib.ListN.{length, get_or, set}
-use lib.Seq.{sets, length-sets}
+use lib.ListN.{length, get_or, take, drop}
+use lib.Seq.{sets, sets-eq, length-sets}
+use Rattle.std.proofs.Common.{append_assoc}
+use Rattle.std.proofs.lemmas.List.{drop-drop}
+use borrow.Rule.Slice.PartMut.{put_mid}
 use Rattle.basics.proofs.Tests.{le-or-lt}
 use Rattle.basics.proofs.Stores.{sets-at, sets_below, sets-above}
 use Rattle.floats.specs.Floats.{plus_zero, bits_of, from_bits}
 use Rattle.model.specs.Rows.{float_word, row_words, row_word, row_at, plus_zeros}
 use Rattle.model.specs.declared.StateEstimate.{StateEstimate}
 
--- seven stores, one after another
-seven-stores : (l : List ℕ) (p a b c d e f g : ℕ)
-    → set (set (set (set (set (set (set l p a) (p + 1) b) (p + 2) c) (p + 3) d) (p + 4) e) (p + 5) f) (p + 6) g ≡ sets l p (a ∷ b ∷ c ∷ d ∷ e ∷ f ∷ g ∷ [])
-seven-stores l p a b c d e f g = simp unary_clauses refl
-
--- seven stores of the words of a row, each word by itself
-pub row_written : (l : List ℕ) (p : ℕ) (e : StateEstimate) (a b c d f g h : ℕ)
-    → a ≡ e.imbalance_bucket
-    → b ≡ e.spread_ticks
-    → c ≡ e.observations
-    → d ≡ float_word e.first_adjustment
-    → f ≡ float_word e.adjustment
-    → g ≡ float_word e.fallback_within_moves
-    → h ≡ e.status
-    → set (set (set (set (set (set (set l p a) (p + 1) b) (p + 2) c) (p + 3) d) (p + 4) f) (p + 5) g) (p + 6) h ≡ sets l p (row_words e)
-row_written l p e a b c d f g h ea eb ec ed ef eg eh =
-    seven-stores l p a b c d f g h ∙ (λ j. sets l p (ea j ∷ eb j ∷ ec j ∷ ed j ∷ ef j ∷ eg j ∷ eh j ∷ []))
+-- the words of a row in place of those that stood there
+pub row-put : (l : List ℕ) (i : ℕ) (e : StateEstimate) {k : ℕ} {ws : List ℕ} → k ≡ 7 → 7 * i + 7 ≤ length l → ws ≡ row_words e
+    → put_mid (7 * i) k l ws ≡ sets l (7 * i) (row_words e)
+row-put l i e is-k h is-ws =
+    (λ j. put_mid (7 * i) (is-k j) l (is-ws j))
+    ∙ sym (append_assoc (take (7 * i) l) (row_words e) (drop 7 (drop (7 * i) l)))
+    ∙ ap (λ rest. take (7 * i) l ++ row_words e ++ rest) (drop-drop 7 (7 * i) l)
+    ∙ sym (sets-eq (row_words e) l (7 * i) h)
 
 pub length-row : (e : StateEstimate) → length (row_words e) ≡ 7
 length-row e = refl

@@ -2,20 +2,8 @@
 ghost use Rattle.std.specs.Prelude.{◌≡◌, ◌+◌, ◌*◌, ◌≤◌, length};
 ghost use Rattle.std.proofs.lemmas.List.Edits.{sets};
 ghost use Rattle.model.specs.Rows.{float_word, row_words, row_at};
-ghost use Rattle.model.specs.Status.{status_number};
 
-use super::{StateEstimate, StateStatus};
-
-pub fn status_number(s: StateStatus) -> u64
-    ensures { result ≡ status_number s }
-{
-    match s {
-        StateStatus::Calibrated => 0,
-        StateStatus::Rare => 1,
-        StateStatus::NoPriceMove => 2,
-        StateStatus::OutsideQuotes => 3,
-    }
-}
+use super::StateEstimate;
 
 // A float's word, zero as plus zero.
 fn float_word(x: f64) -> u64
@@ -29,17 +17,16 @@ pub fn write_row(model: &mut [u64], i: usize, e: StateEstimate)
     requires { 7 * i + 7 ≤ length model.old }
     ensures { model.new ≡ sets model.old (7 * i) (row_words e) }
 {
-    let first_adjustment = float_word(e.first_adjustment);
-    let adjustment = float_word(e.adjustment);
-    let fallback_within_moves = float_word(e.fallback_within_moves);
-    let at = 7 * i;
-    model[at] = e.imbalance_bucket;
-    model[at + 1] = e.spread_ticks;
-    model[at + 2] = e.observations;
-    model[at + 3] = first_adjustment;
-    model[at + 4] = adjustment;
-    model[at + 5] = fallback_within_moves;
-    model[at + 6] = e.status;
+    let row = [
+        e.imbalance_bucket,
+        e.spread_ticks,
+        e.observations,
+        float_word(e.first_adjustment),
+        float_word(e.adjustment),
+        float_word(e.fallback_within_moves),
+        e.status,
+    ];
+    model[7 * i..7 * i + 7].copy_from_slice(&row);
 }
 
 // Reads the row of state i.

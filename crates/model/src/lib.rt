@@ -3,8 +3,11 @@
 
 pub mod inner;
 
+ghost use Rattle.std.specs.Prelude.{◌≡◌};
+ghost use Rattle.model.specs.Status.{status_number, StatusRead};
+
 // Whether a state's adjustment is used: `status_number` of specs/Status.antt.
-#[derive(Clone, Copy)]
+#[derive(Clone, Copy, Debug, PartialEq, Eq)]
 pub enum StateStatus {
     // The adjustment is estimated and used.
     Calibrated,
@@ -14,6 +17,39 @@ pub enum StateStatus {
     NoPriceMove,
     // The limit lies outside the quotes; the signal is the mid.
     OutsideQuotes,
+}
+
+// A word of the model table that is no status's number.
+#[derive(Clone, Copy, Debug, PartialEq, Eq)]
+pub struct UnknownStatus(pub u64);
+
+impl From<StateStatus> for u64 {
+    ghost from_gives = { λ status number. number ≡ status_number status };
+
+    fn from(status: StateStatus) -> u64 {
+        match status {
+            StateStatus::Calibrated => 0,
+            StateStatus::Rare => 1,
+            StateStatus::NoPriceMove => 2,
+            StateStatus::OutsideQuotes => 3,
+        }
+    }
+}
+
+impl TryFrom<u64> for StateStatus {
+    type Error = UnknownStatus;
+
+    ghost try_from_gives = { StatusRead };
+
+    fn try_from(number: u64) -> Result<Self, UnknownStatus> {
+        match number {
+            0 => Ok(StateStatus::Calibrated),
+            1 => Ok(StateStatus::Rare),
+            2 => Ok(StateStatus::NoPriceMove),
+            3 => Ok(StateStatus::OutsideQuotes),
+            _ => Err(UnknownStatus(number)),
+        }
+    }
 }
 
 // A state of the model table. Any words and floats may stand in it; the model check judges them.

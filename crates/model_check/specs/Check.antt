@@ -1,5 +1,5 @@
 -- The model check: document 01, "Model and signal" (the rules of the Rust's `TryFrom<RawModel>`, on floats, plus status ≤ 3, all floats finite, no minus zero).
-use Rattle.std.specs.Prelude.{ℕ, ◌+◌, ◌*◌, Bool, cond, not, ◌||◌, ◌&&◌, List, leb, eqb, Float, length}
+use Rattle.std.specs.Prelude.{ℕ, ◌+◌, ◌*◌, Bool, cond, not, ◌||◌, ◌&&◌, List, leb, eqb, Float, length, Ok, Err}
 use Rattle.std.specs.Float.{binary64}
 use Rattle.std.specs.Float.Ieee.{add, lt, le, eq}
 use Rattle.std.specs.Float.Ieee.Scale.{finite}
@@ -9,9 +9,7 @@ use Rattle.model.specs.Rows.{row_at}
 use Rattle.model.specs.declared.StateEstimate.{StateEstimate}
 use Rattle.model.specs.declared.StateStatus.{StateStatus}
 use Rattle.model.specs.declared.StateStatus.TheVariants.{Calibrated, Rare, NoPriceMove, OutsideQuotes}
-use Rattle.refusals.specs.Refusals.{refuse_if, first_of, first_from}
-use Rattle.refusals.specs.declared.Check.{Check}
-use Rattle.refusals.specs.declared.Check.TheVariants.{Fine, Refused}
+use Rattle.refusals.specs.Refusals.{refuse_if, first_of, first_from, Check}
 use Rattle.refusals.specs.declared.Refusal.TheVariants.{ModelRow}
 use Rattle.config.specs.Configuration.{states, check_config}
 use Rattle.config.specs.declared.MicroPriceConfig.{MicroPriceConfig}
@@ -83,7 +81,7 @@ row_fine c i e mirror =
 -- 13 at row i, unless it is fine
 abbrev pub check_row : MicroPriceConfig → List ℕ → ℕ → Check
 check_row c model i =
-    cond (row_fine c i (row_at model i) (row_at model (mirror_of c.imbalance_buckets i))) Fine (Refused (ModelRow i))
+    cond (row_fine c i (row_at model i) (row_at model (mirror_of c.imbalance_buckets i))) (Ok tt) (Err (ModelRow i))
 
 -- a table has seven words a state
 abbrev pub wrong_length : MicroPriceConfig → List ℕ → Bool

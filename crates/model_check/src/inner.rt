@@ -1,4 +1,4 @@
-// Inner functions of the model check; `half_spread_of` is for the signal. Where one has a `requires`, each caller proves it.
+// Inner functions of the model check; `half_spread_of` and `has_status` are for the signal too. Where one has a `requires`, each caller proves it.
 ghost use Rattle.std.specs.Prelude.{◌≡◌, ◌&&◌, ℕ, ◌*◌, ◌<◌, length};
 ghost use Rattle.refusals.specs.Refusals.{first_from};
 ghost use Rattle.config.specs.Configuration.{states};
@@ -6,17 +6,24 @@ ghost use Rattle.config.specs.Inner.{Valid};
 ghost use Rattle.config.specs.declared.MicroPriceConfig.{MicroPriceConfig};
 ghost use Rattle.floats.specs.Floats.{minus_zero};
 ghost use Rattle.quotes.specs.Inner.{HasLevel};
-ghost use Rattle.model_check.specs.Check.{half_spread_of, bucket_is, spread_is, floats_finite, no_minus_zero, share_in_range, inside_quotes, outside_quotes, fallback_at_mid, state_mirrors, row_fine, check_row};
+ghost use Rattle.model_check.specs.Check.{has_status, half_spread_of, bucket_is, spread_is, floats_finite, no_minus_zero, share_in_range, inside_quotes, outside_quotes, fallback_at_mid, state_mirrors, row_fine, check_row};
 
 use config::MicroPriceConfig;
-use model::StateEstimate;
+use model::{StateEstimate, StateStatus};
 use quotes::inner::Level;
-use refusals::{Check, Refusal};
+use refusals::Refusal;
 
 fn is_minus_zero(x: f64) -> bool
     ensures { result ≡ minus_zero x }
 {
     floats::to_bits(x) == 0x8000_0000_0000_0000
+}
+
+// Whether a row has a status; its word may be none's.
+pub fn has_status(e: StateEstimate, status: StateStatus) -> bool
+    ensures { result ≡ has_status status e }
+{
+    e.status == u64::from(status)
 }
 
 // Half the spread of state i.
@@ -57,7 +64,8 @@ fn state_values_are_consistent(e: StateEstimate) -> bool
     let share = e.fallback_within_moves;
     (0.0 <= share)
         & (share <= 1.0)
-        & (!((e.status == 1) | (e.status == 2)) | ((share == 1.0) & (e.adjustment == 0.0)))
+        & (!(has_status(e, StateStatus::Rare) | has_status(e, StateStatus::NoPriceMove))
+            | ((share == 1.0) & (e.adjustment == 0.0)))
 }
 
 // Whether the adjustment is within half the spread, or outside, as the status says.
@@ -65,7 +73,8 @@ fn is_on_its_side(half: f64, e: StateEstimate) -> bool
     ensures { (config : MicroPriceConfig) (i : ℕ) → half ≡ half_spread_of config i → result ≡ (inside_quotes config i e && outside_quotes config i e) }
 {
     let size = floats::abs(e.adjustment);
-    ((e.status != 0) | (size <= half)) & ((e.status != 3) | (half < size))
+    (!has_status(e, StateStatus::Calibrated) | (size <= half))
+        & (!has_status(e, StateStatus::OutsideQuotes) | (half < size))
 }
 
 fn state_mirrors(e: StateEstimate, mirror: StateEstimate) -> bool
@@ -88,6 +97,7 @@ fn row_fine(
     ensures { result ≡ row_fine config i e mirror }
 {
     let half = floats::inner::half_spread(config.tick_size, level.spread);
+    // The rule is of the word itself: `try_from(e.status).is_ok()` says it less plainly.
     is_placed(config, level, i, e)
         & (e.status <= 3)
         & floats_finite(e)
@@ -98,7 +108,7 @@ fn row_fine(
 }
 
 // Row i, of a state whose spread level is known.
-fn check_row(config: MicroPriceConfig, model: &[u64], level: Level, i: usize) -> Check
+fn check_row(config: MicroPriceConfig, model: &[u64], level: Level, i: usize) -> Result<(), Refusal>
     requires { Valid config × (length model.now ≡ 7 * states config) × HasLevel config.imbalance_buckets level i × (i < states config) }
     ensures { result ≡ check_row config model.now i }
 {
@@ -106,13 +116,13 @@ fn check_row(config: MicroPriceConfig, model: &[u64], level: Level, i: usize) ->
     let e = model::inner::read_row(model, i);
     let mirror = model::inner::read_row(model, m);
     if !row_fine(config, level, i, e, mirror) {
-        return Check::Refused(Refusal::ModelRow(i));
+        return Err(Refusal::ModelRow(i));
     }
-    Check::Fine
+    Ok(())
 }
 
 // All rows, in one walk that knows the spread level of each state.
-pub fn check_rows(config: MicroPriceConfig, model: &[u64], n: usize) -> Check
+pub fn check_rows(config: MicroPriceConfig, model: &[u64], n: usize) -> Result<(), Refusal>
     requires { Valid config × (length model.now ≡ 7 * states config) × (n ≡ states config) }
     ensures { result ≡ first_from (check_row config model.now) 0 n }
 {
@@ -121,14 +131,9 @@ pub fn check_rows(config: MicroPriceConfig, model: &[u64], n: usize) -> Check
         spread: 1,
         first: 0,
     };
-    let mut i: usize = 0;
-    while i < n {
-        let k = check_row(config, model, level, i);
-        let Check::Fine = k else {
-            return k;
-        };
+    for i in 0..n {
+        check_row(config, model, level, i)?;
         level = quotes::inner::level_after(w, level, i);
-        i += 1;
     }
-    Check::Fine
+    Ok(())
 }

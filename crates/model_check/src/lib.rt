@@ -7,18 +7,16 @@ ghost use Rattle.std.specs.Prelude.{◌≡◌};
 ghost use Rattle.model_check.specs.Check.{check_model};
 
 use config::MicroPriceConfig;
-use refusals::{Check, Refusal};
+use refusals::Refusal;
 
 // Refuses a model table that is not one of the configuration, at its first bad row.
-pub fn check_model(config: MicroPriceConfig, model: &[u64]) -> Check
+pub fn check_model(config: MicroPriceConfig, model: &[u64]) -> Result<(), Refusal>
     ensures { result ≡ check_model config model.now }
 {
-    if !config::inner::is_valid(config) {
-        return Check::Refused(Refusal::Configuration);
-    }
+    config.validate()?;
     let n = config::inner::state_count(config);
     if model.len() != 7 * n {
-        return Check::Refused(Refusal::SliceLength);
+        return Err(Refusal::SliceLength);
     }
     inner::check_rows(config, model, n)
 }

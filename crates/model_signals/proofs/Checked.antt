@@ -14,8 +14,12 @@ use Rattle.model.specs.Rows.{row_at}
 use Rattle.model.specs.declared.StateEstimate.{StateEstimate}
 use Rattle.model.specs.declared.StateStatus.TheVariants.{Calibrated}
 use Rattle.model.proofs.Rows.{row-held}
-use Rattle.refusals.specs.Refusals.{refuse_if, first_of, first_from}
-use Rattle.refusals.specs.declared.Check.{Check}
+use Rattle.refusals.specs.Refusals.{refuse_if, first_of, first_from, Check}
+use Rattle.std.specs.Prelude.{Result, Ok, Err}
+use Rattle.refusals.specs.declared.Refusal.{Refusal}
+use Rattle.model_signals.specs.declared.MicroPriceSignal.{MicroPriceSignal}
+use Rattle.quotes.specs.declared.At.{At}
+use Rattle.quotes.specs.declared.Reason.{Reason}
 use Rattle.refusals.specs.declared.Refusal.TheVariants.{ModelRow}
 use Rattle.refusals.proofs.Refusals.{first_fine, from-fine}
 use Rattle.config.specs.Configuration.{states, valid, check_config}
@@ -24,14 +28,11 @@ use Rattle.config.specs.declared.MicroPriceConfig.{MicroPriceConfig}
 use Rattle.config.proofs.Known.{valid-known}
 use Rattle.quotes.specs.Quotes.{over_domain, bad_quote, off_tick, check_quote, exchanged}
 use Rattle.quotes.specs.States.{mirror_of, place_of}
-use Rattle.quotes.specs.declared.Place.{Place}
-use Rattle.quotes.specs.declared.Place.TheVariants.{State, NoState}
 use Rattle.quotes.specs.declared.TopOfBook.{TopOfBook}
 use Rattle.quotes.proofs.States.{place-located, state-located}
 use Rattle.model_check.specs.Check.{half_spread_of, has_status, bucket_is, spread_is, status_known, floats_finite, no_minus_zero, share_in_range, fallback_at_mid, inside_quotes, outside_quotes, state_mirrors, row_fine, check_row, wrong_length, check_model}
 use Rattle.model_signals.specs.Claims.{RowsMirror, AnswersMirror}
 use Rattle.model_signals.specs.Signal.{row_serves, adjustment_of, source_of, sent, signal_at, sent_unless, signal_refusal, signal_of}
-use Rattle.model_signals.specs.declared.Signalled.TheVariants.{Refused}
 use Rattle.model_signals.proofs.Exchanged.{signal-exchanged}
 use Rattle.model_signals.proofs.Usable.{unrefused}
 use Rattle.floats.proofs.Zeros.{sum-zero, plus-sum}
@@ -105,39 +106,40 @@ fine-mirrors c t i j h =
 
 -- where each row serves, no quote's signal is refused by 13
 pub all-served : (c : MicroPriceConfig) (t : List ℕ) → ((i : ℕ) → i < states c → row_serves c i (row_at t i) ≡ true) → (q : TopOfBook) (i : ℕ)
-    → signal_of c t q ≡ Refused (ModelRow i) → ⊥
+    → signal_of c t q ≡ Err (ModelRow i) → ⊥
 all-served c t serves q i e = go (signal_refusal c t q) refl e
   where
-    quote : (a b d : Bool) → first_of (refuse_if a 2) (first_of (refuse_if b 3) (refuse_if d 4)) ≡ Check.Refused (ModelRow i) → ⊥
+    quote : (a b d : Bool) → first_of (refuse_if a 2) (first_of (refuse_if b 3) (refuse_if d 4)) ≡ Err (ModelRow i) → ⊥
     quote true b d k = zero-not-one cc
     quote false true d k = zero-not-one cc
     quote false false true k = zero-not-one cc
     quote false false false k = zero-not-one cc
 
-    no_row : (a b : Bool) (k : Check) → (k ≡ Check.Refused (ModelRow i) → ⊥) → first_of (refuse_if a 1) (first_of (refuse_if b 7) k) ≡ Check.Refused (ModelRow i)
+    no_row : (a b : Bool) (k : Check) → (k ≡ Err (ModelRow i) → ⊥) → first_of (refuse_if a 1) (first_of (refuse_if b 7) k) ≡ Err (ModelRow i)
         → ⊥
     no_row true b k n f = zero-not-one cc
     no_row false true k n f = zero-not-one cc
     no_row false false k n f = n f
 
-    place : (p : Place) → Valid c → place_of c q ≡ p → signal_at c t q p ≡ Refused (ModelRow i) → ⊥
-    place (State a) v p k =
+    place : (p : Result At Reason) → Valid c → place_of c q ≡ p → signal_at c t q p ≡ Err (ModelRow i) → ⊥
+    place (Ok a) v p k =
         let s = serves a.state (place-located c q v a p).below in
-        let f : sent q (adjustment_of (row_at t a.state)) (source_of (row_at t a.state).status) ≡ Refused (ModelRow i) = rw s at k in
+        let f : ◌≡◌ {A = Result MicroPriceSignal Refusal} (Ok (sent q (adjustment_of (row_at t a.state)) (source_of (row_at t a.state).status))) (Err (ModelRow i)) =
+        rw s at k in
         zero-not-one (cc f)
-    place (NoState r) v p k = zero-not-one cc
+    place (Err r) v p k = zero-not-one cc
 
-    go : (k : Check) → signal_refusal c t q ≡ k → sent_unless k (signal_at c t q (place_of c q)) ≡ Refused (ModelRow i) → ⊥
-    go Check.Fine r k = place (place_of c q) (valid-known c (unrefused c t q r).config) refl k
-    go (Check.Refused x) r k =
-        let f : Check.Refused x ≡ Check.Refused (ModelRow i) = cc in
+    go : (k : Check) → signal_refusal c t q ≡ k → sent_unless k (signal_at c t q (place_of c q)) ≡ Err (ModelRow i) → ⊥
+    go (Ok _) r k = place (place_of c q) (valid-known c (unrefused c t q r).config) refl k
+    go (Err x) r k =
+        let f : Err x ≡ Err (ModelRow i) = cc in
         no_row (not (valid c)) (wrong_length c t) (check_quote c q) (quote (over_domain q) (bad_quote q) (off_tick c q)) (r ∙ f)
 
-row_fine_lem : (b : Bool) (i : ℕ) → cond b Check.Fine (Check.Refused (ModelRow i)) ≡ Check.Fine → b ≡ true
+row_fine_lem : (b : Bool) (i : ℕ) → cond {A = Check} b (Ok tt) (Err (ModelRow i)) ≡ Ok tt → b ≡ true
 row_fine_lem true i e = refl
 row_fine_lem false i e = absurd (zero-not-one cc)
 
-module _ (c : MicroPriceConfig) (t : List ℕ) (h : check_model c t ≡ Check.Fine) where
+module _ (c : MicroPriceConfig) (t : List ℕ) (h : check_model c t ≡ Ok tt) where
   rows-fine : (i : ℕ) → i < states c → row_fine c i (row_at t i) (row_at t (mirror_of c.imbalance_buckets i)) ≡ true
   rows-fine i l =
       let a = first_fine (check_config c) (first_of (refuse_if (wrong_length c t) 7) (first_from (check_row c t) 0 (states c))) h in
@@ -149,7 +151,7 @@ module _ (c : MicroPriceConfig) (t : List ℕ) (h : check_model c t ≡ Check.Fi
   checked-mirrored i l = fine-mirrors c t i (mirror_of c.imbalance_buckets i) (rows-fine i l)
 
   -- no quote's signal is refused by 13
-  pub checked-served : (q : TopOfBook) (i : ℕ) → signal_of c t q ≡ Refused (ModelRow i) → ⊥
+  pub checked-served : (q : TopOfBook) (i : ℕ) → signal_of c t q ≡ Err (ModelRow i) → ⊥
   checked-served = all-served c t (λ i l. fine-serves c i (row_at t i) _ (rows-fine i l))
 
   -- the signals of a quote and of the same with its sizes exchanged

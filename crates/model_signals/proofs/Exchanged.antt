@@ -11,7 +11,9 @@ use Rattle.floats.specs.Floats.{pos_zero, abs, half_spread}
 use Rattle.model.specs.Rows.{row_at}
 use Rattle.model.specs.declared.StateEstimate.{StateEstimate}
 use Rattle.model.proofs.Rows.{row-held}
-use Rattle.refusals.specs.declared.Check.{Check}
+use Rattle.std.specs.Prelude.{Result, Ok, Err}
+use Rattle.quotes.specs.declared.Reason.{Reason}
+use Rattle.refusals.specs.Refusals.{Check}
 use Rattle.refusals.specs.declared.Refusal.TheVariants.{ModelRow}
 use Rattle.config.specs.Inner.{Valid}
 use Rattle.config.specs.declared.MicroPriceConfig.{MicroPriceConfig}
@@ -20,8 +22,6 @@ use Rattle.quotes.specs.Inner.{Located}
 use Rattle.quotes.specs.Quotes.{exchanged}
 use Rattle.quotes.specs.States.{spread_in, mirror_place, place_of, state_of}
 use Rattle.quotes.specs.declared.At.{At}
-use Rattle.quotes.specs.declared.Place.{Place}
-use Rattle.quotes.specs.declared.Place.TheVariants.{State, NoState}
 use Rattle.quotes.specs.declared.TopOfBook.{TopOfBook}
 use Rattle.quotes.proofs.Exchanged.{check-exchanged, place-exchanged}
 use Rattle.quotes.proofs.Known.{fine-known}
@@ -30,7 +30,6 @@ use Rattle.model_check.specs.Check.{half_spread_of}
 use Rattle.model_signals.specs.Claims.{RowsMirror, SignalsMirror, AnswersMirror}
 use Rattle.model_signals.specs.Signal.{row_serves, adjustment_of, source_of, signal_at, sent_unless, signal_refusal, signal_of}
 use Rattle.model_signals.specs.declared.MicroPriceSignal.{MicroPriceSignal}
-use Rattle.model_signals.specs.declared.Signalled.TheVariants.{Sent, Refused}
 use Rattle.model_signals.proofs.Usable.{unrefused}
 use Rattle.floats.proofs.Signs.{abs-finite}
 use Rattle.floats.proofs.Zeros.{sum-zero, same_size}
@@ -76,29 +75,29 @@ module _ (c : MicroPriceConfig) (t : List ℕ) (a : At) (v : Valid c) (l : Locat
       go false z = rw (← h.status-same, z) zeros-sum
 
 answers : (b d : Bool) (x y : MicroPriceSignal) (i j : ℕ) → b ≡ d → SignalsMirror x y
-    → AnswersMirror (cond b (Sent x) (Refused (ModelRow i))) (cond d (Sent y) (Refused (ModelRow j)))
+    → AnswersMirror (cond b (Ok x) (Err (ModelRow i))) (cond d (Ok y) (Err (ModelRow j)))
 answers true true x y i j e s = s
 answers true false x y i j e s = absurd (true≢false e)
 answers false true x y i j e s = absurd (false≢true e)
 answers false false x y i j e s = refl
 
 pub signal-exchanged : (c : MicroPriceConfig) (t : List ℕ) (q : TopOfBook)
-    → ((a : At) → state_of c q ≡ State a → RowsMirror (row_at t a.state) (row_at t a.mirror))
+    → ((a : At) → state_of c q ≡ Ok a → RowsMirror (row_at t a.state) (row_at t a.mirror))
     → AnswersMirror (signal_of c t q) (signal_of c t (exchanged q))
 signal-exchanged c t q h = rw (check-exchanged c q) (go (signal_refusal c t q) refl)
   where
-    at : (p : Place) → Valid c → place_of c q ≡ p → state_of c q ≡ p → AnswersMirror (signal_at c t q p) (signal_at c t (exchanged q) (mirror_place p))
-    at (State a) v p s =
+    at : (p : Result At Reason) → Valid c → place_of c q ≡ p → state_of c q ≡ p → AnswersMirror (signal_at c t q p) (signal_at c t (exchanged q) (mirror_place p))
+    at (Ok a) v p s =
         let m = h a s in
         let l = place-located c q v a p in
         answers _ _ _ _ a.state a.mirror (serve-alike c t a v l m)
         (record { time-same = refl; mid-same = refl; source-same = ap source_of m.status-same; sum-zero = adjustments c t a v l m })
-    at (NoState r) v p s = record { time-same = refl; mid-same = refl; source-same = refl; sum-zero = zeros-sum }
+    at (Err r) v p s = record { time-same = refl; mid-same = refl; source-same = refl; sum-zero = zeros-sum }
 
     go : (k : Check) → signal_refusal c t q ≡ k
         → AnswersMirror (sent_unless k (signal_at c t q (place_of c q))) (sent_unless k (signal_at c t (exchanged q) (place_of c (exchanged q))))
-    go Check.Fine r =
+    go (Ok _) r =
         let u = unrefused c t q r in
         let v = valid-known c u.config in
         rw (place-exchanged c q v (fine-known c q u.quote)) (at (place_of c q) v refl (rw (u.config, u.quote)))
-    go (Check.Refused x) r = refl
+    go (Err x) r = refl

@@ -1,4 +1,3 @@
-pub mod Answers
 pub mod Usable
 pub mod Within
 pub mod Exchanged

@@ -5,13 +5,13 @@ use mathlib.Core.List.{List, [], ◌∷◌, ◌++◌}
 use lib.Ieee.{Float, add, lt, le, eq, of_bits, to_bits}
 use Rattle.floats.specs.Floats.{pos_zero, abs, half, from_bits}
 use Rattle.model.specs.declared.StateStatus.TheVariants.{Rare}
-use Rattle.refusals.specs.declared.Check.TheVariants.{Fine}
+use Rattle.std.specs.Prelude.{Result, Ok}
+use Rattle.model_signals.specs.declared.MicroPriceSignal.{MicroPriceSignal}
+use Rattle.refusals.specs.declared.Refusal.{Refusal}
 use Rattle.quotes.specs.declared.TopOfBook.{TopOfBook}
 use Rattle.quotes.proofs.Marked.{marked}
 use Rattle.model_check.specs.Check.{row_fine, check_model}
 use Rattle.model_signals.specs.Signal.{row_serves, signal_of}
-use Rattle.model_signals.specs.declared.Signalled.{Signalled}
-use Rattle.model_signals.specs.declared.Signalled.TheVariants.{Sent}
 use Rattle.model_signals.specs.declared.SignalSource.{SignalSource}
 use Rattle.model_signals.specs.declared.SignalSource.TheVariants.{MicroPrice, MidFallback, SpreadOutOfRange}
 
@@ -32,10 +32,10 @@ abbrev quote : ℕ → ℕ → ℕ → TopOfBook
 quote ask x y = record { timestamp_ms = 7; bid = 100; ask = ask; bid_size = x; ask_size = y }
 
 -- the signal of a quote at time 7: bid + ask, adjustment and source
-abbrev signal : ℕ → Float → SignalSource → Signalled
-signal mid-sum adjustment source = Sent (record { timestamp_ms = 7; mid_sum = mid-sum; adjustment = adjustment; source = source })
+abbrev signal : ℕ → Float → SignalSource → Result MicroPriceSignal Refusal
+signal mid-sum adjustment source = Ok (record { timestamp_ms = 7; mid_sum = mid-sum; adjustment = adjustment; source = source })
 
-pub printed-checked : check_model (marked 1) table ≡ Fine
+pub printed-checked : check_model (marked 1) table ≡ Ok tt
 unfolding row_fine abs half add lt le eq of_bits to_bits
 printed-checked = refl
 

@@ -1,15 +1,16 @@
 -- What is known where 1, 7, 2, 3 and 4 do not refuse a signal.
 use Prim.Native.Nat.{ℕ, ◌*◌}
 use mathlib.Core.Path.{◌≡◌, refl}
-use mathlib.Core.Bool.{true, not}
+use mathlib.Core.Bool.{true}
 use mathlib.Core.List.{List}
 use lib.ListN.{length}
 use lib.Dec.{eqb}
 use borrow.Author.Tests.{not-false, eqb-true}
 use Rattle.refusals.specs.Refusals.{refuse_if, first_of}
-use Rattle.refusals.specs.declared.Check.TheVariants.{Fine}
+use Rattle.std.specs.Prelude.{Ok}
 use Rattle.refusals.proofs.Refusals.{if-fine, first_fine}
 use Rattle.config.specs.Configuration.{states, valid, check_config}
+use Rattle.config.proofs.Known.{valid-unrefused}
 use Rattle.config.specs.declared.MicroPriceConfig.{MicroPriceConfig}
 use Rattle.quotes.specs.Quotes.{check_quote}
 use Rattle.quotes.specs.declared.TopOfBook.{TopOfBook}
@@ -19,14 +20,14 @@ use Rattle.model_signals.specs.Signal.{signal_refusal}
 pub record Usable (c : MicroPriceConfig) (t : List ℕ) (q : TopOfBook) : Type 0 where
   pub config : valid c ≡ true
   pub table : length t ≡ 7 * states c
-  pub quote : check_quote c q ≡ Fine
+  pub quote : check_quote c q ≡ Ok tt
 
-pub unrefused : (c : MicroPriceConfig) (t : List ℕ) (q : TopOfBook) → signal_refusal c t q ≡ Fine → Usable c t q
+pub unrefused : (c : MicroPriceConfig) (t : List ℕ) (q : TopOfBook) → signal_refusal c t q ≡ Ok tt → Usable c t q
 unrefused c t q e =
     let a = first_fine (check_config c) (first_of (refuse_if (wrong_length c t) 7) (check_quote c q)) e in
     let b = first_fine (refuse_if (wrong_length c t) 7) (check_quote c q) a.1 in
     record {
-      config = not-false (valid c) (if-fine (not (valid c)) 1 refl a.0);
+      config = valid-unrefused c a.0;
       table = eqb-true (length t) (7 * states c) (not-false (eqb (length t) (7 * states c)) (if-fine (wrong_length c t) 7 refl b.0));
       quote = b.1;
     }

@@ -16,7 +16,10 @@ use Rattle.floats.proofs.Within.{values-le}
 use Rattle.model.specs.Rows.{row_at}
 use Rattle.model.specs.declared.StateEstimate.{StateEstimate}
 use Rattle.model.specs.declared.StateStatus.TheVariants.{Calibrated}
-use Rattle.refusals.specs.declared.Check.{Check}
+use Rattle.std.specs.Prelude.{Result, Ok, Err}
+use Rattle.quotes.specs.declared.Reason.{Reason}
+use Rattle.refusals.specs.Refusals.{Check}
+use Rattle.refusals.specs.declared.Refusal.{Refusal}
 use Rattle.refusals.specs.declared.Refusal.TheVariants.{ModelRow}
 use Rattle.config.specs.Inner.{Valid}
 use Rattle.config.specs.declared.MicroPriceConfig.{MicroPriceConfig}
@@ -24,8 +27,6 @@ use Rattle.config.proofs.Known.{valid-known}
 use Rattle.quotes.specs.Inner.{Accepted}
 use Rattle.quotes.specs.States.{spread_in, place_of}
 use Rattle.quotes.specs.declared.At.{At}
-use Rattle.quotes.specs.declared.Place.{Place}
-use Rattle.quotes.specs.declared.Place.TheVariants.{State, NoState}
 use Rattle.quotes.specs.declared.TopOfBook.{TopOfBook}
 use Rattle.quotes.proofs.Known.{fine-known}
 use Rattle.quotes.proofs.States.{place-located, place-spread}
@@ -34,7 +35,6 @@ use Rattle.model_check.specs.Check.{half_spread_of, has_status}
 use Rattle.model_signals.specs.Claims.{Within}
 use Rattle.model_signals.specs.Signal.{row_serves, adjustment_of, source_of, sent, signal_at, sent_unless, signal_refusal, signal_of}
 use Rattle.model_signals.specs.declared.MicroPriceSignal.{MicroPriceSignal}
-use Rattle.model_signals.specs.declared.Signalled.TheVariants.{Sent, Refused}
 use Rattle.quotes.proofs.Widths.{width-most}
 use Rattle.model_signals.proofs.Usable.{unrefused}
 
@@ -55,7 +55,7 @@ mid-within : (q : TopOfBook) → Within q pos_zero
 unfolding abs of_bits
 mid-within q = record { num = 0; den = 1; den-some = omega arith; size = (refl, refl); inside = omega arith }
 
-module _ (c : MicroPriceConfig) (q : TopOfBook) (v : Valid c) (f : Accepted c q) (a : At) (p : place_of c q ≡ State a) where
+module _ (c : MicroPriceConfig) (q : TopOfBook) (v : Valid c) (f : Accepted c q) (a : At) (p : place_of c q ≡ Ok a) where
   abbrev width : ℕ
   width = c.tick_size * spread_in c.imbalance_buckets a.state
 
@@ -79,22 +79,22 @@ module _ (c : MicroPriceConfig) (q : TopOfBook) (v : Valid c) (f : Accepted c q)
       go false z = mid-within q
 
 -- the signal that was sent is this one
-sent_is : (q : TopOfBook) (m s : MicroPriceSignal) → Sent m ≡ Sent s → Within q m.adjustment → Within q s.adjustment
+sent_is : (q : TopOfBook) (m s : MicroPriceSignal) → ◌≡◌ {A = Result MicroPriceSignal Refusal} (Ok m) (Ok s) → Within q m.adjustment → Within q s.adjustment
 sent_is q m s e w = let k : m ≡ s = cc in subst (λ (x : MicroPriceSignal). Within q x.adjustment) k w
 
-pub signal-within : (c : MicroPriceConfig) (t : List ℕ) (q : TopOfBook) (s : MicroPriceSignal) → signal_of c t q ≡ Sent s → Within q s.adjustment
+pub signal-within : (c : MicroPriceConfig) (t : List ℕ) (q : TopOfBook) (s : MicroPriceSignal) → signal_of c t q ≡ Ok s → Within q s.adjustment
 signal-within c t q s e = go (signal_refusal c t q) refl e
   where
-    row : (a : At) → Valid c → Accepted c q → place_of c q ≡ State a → (b : Bool) → row_serves c a.state (row_at t a.state) ≡ b
-        → cond b (sent q (adjustment_of (row_at t a.state)) (source_of (row_at t a.state).status)) (Refused (ModelRow a.state)) ≡ Sent s
+    row : (a : At) → Valid c → Accepted c q → place_of c q ≡ Ok a → (b : Bool) → row_serves c a.state (row_at t a.state) ≡ b
+        → cond b (Ok (sent q (adjustment_of (row_at t a.state)) (source_of (row_at t a.state).status))) (Err (ModelRow a.state)) ≡ Ok s
         → Within q s.adjustment
     row a v f p true r k = sent_is q _ s k (row_within c q v f a p (row_at t a.state) r)
     row a v f p false r k = absurd (zero-not-one cc)
 
-    place : (p : Place) → Valid c → Accepted c q → place_of c q ≡ p → signal_at c t q p ≡ Sent s → Within q s.adjustment
-    place (State a) v f p k = row a v f p (row_serves c a.state (row_at t a.state)) refl k
-    place (NoState r) v f p k = sent_is q _ s k (mid-within q)
+    place : (p : Result At Reason) → Valid c → Accepted c q → place_of c q ≡ p → signal_at c t q p ≡ Ok s → Within q s.adjustment
+    place (Ok a) v f p k = row a v f p (row_serves c a.state (row_at t a.state)) refl k
+    place (Err r) v f p k = sent_is q _ s k (mid-within q)
 
-    go : (k : Check) → signal_refusal c t q ≡ k → sent_unless k (signal_at c t q (place_of c q)) ≡ Sent s → Within q s.adjustment
-    go Check.Fine r k = let u = unrefused c t q r in place (place_of c q) (valid-known c u.config) (fine-known c q u.quote) refl k
-    go (Check.Refused x) r k = absurd (zero-not-one cc)
+    go : (k : Check) → signal_refusal c t q ≡ k → sent_unless k (signal_at c t q (place_of c q)) ≡ Ok s → Within q s.adjustment
+    go (Ok _) r k = let u = unrefused c t q r in place (place_of c q) (valid-known c u.config) (fine-known c q u.quote) refl k
+    go (Err x) r k = absurd (zero-not-one cc)

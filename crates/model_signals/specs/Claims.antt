@@ -1,5 +1,5 @@
 -- What the theorems of proofs/ say of signals.
-use Rattle.std.specs.Prelude.{ℕ, ◌-◌, ◌*◌, ◌≤◌, ◌<◌, ◌≡◌, false, Float}
+use Rattle.std.specs.Prelude.{ℕ, ◌-◌, ◌*◌, ◌≤◌, ◌<◌, ◌≡◌, false, Float, Result, Ok, Err}
 use Rattle.std.specs.Float.{binary64}
 use Rattle.std.specs.Float.Ieee.{add}
 use Rattle.std.specs.Float.Ieee.Exact.{HasValue}
@@ -8,8 +8,7 @@ use Rattle.model.specs.declared.StateEstimate.{StateEstimate}
 use Rattle.refusals.specs.Refusals.{number_of}
 use Rattle.quotes.specs.declared.TopOfBook.{TopOfBook}
 use Rattle.model_signals.specs.declared.MicroPriceSignal.{MicroPriceSignal}
-use Rattle.model_signals.specs.declared.Signalled.{Signalled}
-use Rattle.model_signals.specs.declared.Signalled.TheVariants.{Sent, Refused}
+use Rattle.refusals.specs.declared.Refusal.{Refusal}
 
 -- the size of an adjustment is exactly the fraction num / den, and twice that is at most ask − bid
 pub record Within (q : TopOfBook) (a : Float) : Type 0 where
@@ -32,8 +31,8 @@ pub record SignalsMirror (a b : MicroPriceSignal) : Type 0 where
   pub sum-zero : add binary64 a.adjustment b.adjustment ≡ pos_zero
 
 -- and two answers: such signals, or refusals of the same number
-abbrev pub AnswersMirror : Signalled → Signalled → Type 0
-AnswersMirror (Sent a) (Sent b) = SignalsMirror a b
-AnswersMirror (Sent a) (Refused s) = ⊥
-AnswersMirror (Refused r) (Sent b) = ⊥
-AnswersMirror (Refused r) (Refused s) = number_of r ≡ number_of s
+abbrev pub AnswersMirror : Result MicroPriceSignal Refusal → Result MicroPriceSignal Refusal → Type 0
+AnswersMirror (Ok a) (Ok b) = SignalsMirror a b
+AnswersMirror (Ok a) (Err s) = ⊥
+AnswersMirror (Err r) (Ok b) = ⊥
+AnswersMirror (Err r) (Err s) = number_of r ≡ number_of s

@@ -6,10 +6,11 @@ ghost use Rattle.quotes.specs.Inner.{Accepted};
 ghost use Rattle.quotes.specs.States.{place_of};
 ghost use Rattle.model_signals.specs.Signal.{source_number, row_serves, status_of, source_of, adjustment_of, sent, signal_of_row, signal_at};
 
-use super::{MicroPriceSignal, SignalSource, Signalled};
+use super::{MicroPriceSignal, SignalSource};
 use config::MicroPriceConfig;
 use model::{StateEstimate, StateStatus};
-use quotes::{Place, TopOfBook};
+use model_check::inner::has_status;
+use quotes::TopOfBook;
 use refusals::Refusal;
 
 fn row_serves(config: MicroPriceConfig, i: usize, e: StateEstimate) -> bool
@@ -17,33 +18,26 @@ fn row_serves(config: MicroPriceConfig, i: usize, e: StateEstimate) -> bool
     ensures { result ≡ row_serves config i e }
 {
     let half = model_check::inner::half_spread_of(config, i);
+    // The rule is of the word itself: `try_from(e.status).is_ok()` says it less plainly.
     (e.status <= 3)
-        & ((e.status != 0)
+        & (!has_status(e, StateStatus::Calibrated)
             | (floats::is_finite(e.adjustment) & (floats::abs(e.adjustment) <= half)))
 }
 
+// The status of a row that serves: its word is one's number.
 fn status_of(status: u64) -> StateStatus
     ensures { result ≡ status_of status }
 {
-    if status == 0 {
-        return StateStatus::Calibrated;
-    }
-    if status == 1 {
-        return StateStatus::Rare;
-    }
-    if status == 2 {
-        return StateStatus::NoPriceMove;
-    }
-    StateStatus::OutsideQuotes
+    StateStatus::try_from(status).unwrap_or(StateStatus::OutsideQuotes)
 }
 
 fn source_of(status: u64) -> SignalSource
     ensures { result ≡ source_of status }
 {
-    if status == 0 {
-        return SignalSource::MicroPrice;
+    match status_of(status) {
+        StateStatus::Calibrated => SignalSource::MicroPrice,
+        status => SignalSource::MidFallback(status),
     }
-    SignalSource::MidFallback(status_of(status))
 }
 
 pub fn source_number(s: SignalSource) -> u64
@@ -51,7 +45,7 @@ pub fn source_number(s: SignalSource) -> u64
 {
     match s {
         SignalSource::MicroPrice => 0,
-        SignalSource::MidFallback(status) => model::inner::status_number(status),
+        SignalSource::MidFallback(status) => u64::from(status),
         SignalSource::SpreadOutOfRange => 4,
     }
 }
@@ -59,10 +53,11 @@ pub fn source_number(s: SignalSource) -> u64
 fn adjustment_of(e: StateEstimate) -> f64
     ensures { result ≡ adjustment_of e }
 {
-    if e.status == 0 {
-        return e.adjustment;
+    if has_status(e, StateStatus::Calibrated) {
+        e.adjustment
+    } else {
+        0.0
     }
-    0.0
 }
 
 fn signal_of(
@@ -70,39 +65,46 @@ fn signal_of(
     quote: TopOfBook,
     adjustment: f64,
     source: SignalSource,
-) -> Signalled
+) -> MicroPriceSignal
     requires { Accepted config quote }
     ensures { result ≡ sent quote adjustment source }
 {
-    Signalled::Sent(MicroPriceSignal {
+    MicroPriceSignal {
         timestamp_ms: quote.timestamp_ms,
         mid_sum: quote.bid + quote.ask,
         adjustment,
         source,
-    })
+    }
 }
 
 // The signal of an accepted quote in state i.
-fn signal_of_row(config: MicroPriceConfig, model: &[u64], quote: TopOfBook, i: usize) -> Signalled
+fn signal_of_row(
+    config: MicroPriceConfig,
+    model: &[u64],
+    quote: TopOfBook,
+    i: usize,
+) -> Result<MicroPriceSignal, Refusal>
     requires { Valid config × (length model.now ≡ 7 * states config) × Accepted config quote × (i < states config) }
     ensures { result ≡ signal_of_row config model.now quote i }
 {
     let e = model::inner::read_row(model, i);
     if !row_serves(config, i, e) {
-        return Signalled::Refused(Refusal::ModelRow(i));
+        return Err(Refusal::ModelRow(i));
     }
-    signal_of(config, quote, adjustment_of(e), source_of(e.status))
+    Ok(signal_of(config, quote, adjustment_of(e), source_of(e.status)))
 }
 
 // The signal of an accepted quote.
-pub fn signal_at(config: MicroPriceConfig, model: &[u64], quote: TopOfBook) -> Signalled
+pub fn signal_at(
+    config: MicroPriceConfig,
+    model: &[u64],
+    quote: TopOfBook,
+) -> Result<MicroPriceSignal, Refusal>
     requires { Valid config × (length model.now ≡ 7 * states config) × Accepted config quote }
     ensures { result ≡ signal_at config model.now quote (place_of config quote) }
 {
-    let place = quotes::inner::place_of(config, quote);
-    let Place::State(at) = place else {
-        return signal_of(config, quote, 0.0, SignalSource::SpreadOutOfRange);
+    let Ok(at) = quotes::inner::place_of(config, quote) else {
+        return Ok(signal_of(config, quote, 0.0, SignalSource::SpreadOutOfRange));
     };
-    let i = at.state;
-    signal_of_row(config, model, quote, i)
+    signal_of_row(config, model, quote, at.state)
 }

@@ -9,7 +9,7 @@ ghost use Rattle.model_signals.specs.Signal.{signal_of};
 use config::MicroPriceConfig;
 use model::StateStatus;
 use quotes::TopOfBook;
-use refusals::{Check, Refusal};
+use refusals::Refusal;
 
 // Why a signal is what it is: `source_number` of specs/Signal.antt.
 #[derive(Clone, Copy)]
@@ -35,26 +35,18 @@ pub struct MicroPriceSignal {
     pub source: SignalSource,
 }
 
-// The answer of `signal`.
-#[derive(Clone, Copy)]
-pub enum Signalled {
-    Sent(MicroPriceSignal),
-    Refused(Refusal),
-}
-
 // The signal of a quote. Of the table only the row of the quote's state is read.
-pub fn signal(config: MicroPriceConfig, model: &[u64], quote: TopOfBook) -> Signalled
+pub fn signal(
+    config: MicroPriceConfig,
+    model: &[u64],
+    quote: TopOfBook,
+) -> Result<MicroPriceSignal, Refusal>
     ensures { result ≡ signal_of config model.now quote }
 {
-    if !config::inner::is_valid(config) {
-        return Signalled::Refused(Refusal::Configuration);
-    }
+    config.validate()?;
     if model.len() != 7 * config::inner::state_count(config) {
-        return Signalled::Refused(Refusal::SliceLength);
+        return Err(Refusal::SliceLength);
     }
-    let checked = quotes::inner::check_quote(config, quote);
-    match checked {
-        Check::Refused(refusal) => Signalled::Refused(refusal),
-        Check::Fine => inner::signal_at(config, model, quote),
-    }
+    quotes::inner::check_quote(config, quote)?;
+    inner::signal_at(config, model, quote)
 }

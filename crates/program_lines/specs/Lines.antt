@@ -1,7 +1,6 @@
 -- The lines that the evening program prints: document 01, "Marked and run".
-use Rattle.std.specs.Prelude.{ℕ, zero, suc, ◌+◌, ◌≤◌, List, [], ◌∷◌, ◌++◌}
-use Rattle.refusals.specs.Refusals.{number_of}
-use Rattle.refusals.specs.declared.Check.{Check}
+use Rattle.std.specs.Prelude.{ℕ, zero, suc, ◌+◌, ◌≤◌, List, [], ◌∷◌, ◌++◌, Ok, Err}
+use Rattle.refusals.specs.Refusals.{number_of, Check}
 use Rattle.model.specs.Rows.{row_word}
 use Rattle.program_text.specs.Text.{decimal, space, newline}
 use Rattle.program_text.specs.Written.{hex16, Put}
@@ -69,8 +68,8 @@ row_lines model (suc i) = row_lines model i ++ row_line model i
 
 -- the rows; a failed fit puts its number there
 abbrev pub fit_lines : Check → List ℕ → ℕ → List ℕ
-fit_lines Check.Fine model n = row_lines model n
-fit_lines (Check.Refused r) model n = named fit_word (number_of r)
+fit_lines (Ok _) model n = row_lines model n
+fit_lines (Err r) model n = named fit_word (number_of r)
 
 -- ---- writing them
 

@@ -1,5 +1,5 @@
 -- What the evening program prints: document 01, "Marked and run".
-use Rattle.std.specs.Prelude.{ℕ, ◌+◌, ◌*◌, cond, List, [], ◌∷◌, ◌++◌, ltb, get_or, replicate}
+use Rattle.std.specs.Prelude.{ℕ, ◌+◌, ◌*◌, cond, List, [], ◌∷◌, ◌++◌, ltb, get_or, replicate, Result, Ok, Err}
 use Rattle.floats.specs.Floats.{pos_zero}
 use Rattle.refusals.specs.Refusals.{number_of}
 use Rattle.config.specs.Configuration.{states, config_of}
@@ -7,8 +7,8 @@ use Rattle.config.specs.declared.MicroPriceConfig.{MicroPriceConfig}
 use Rattle.tally.specs.Events.{Counts}
 use Rattle.calibrator.specs.Observe.{fresh}
 use Rattle.evening.specs.Evening.{EveningOutcome, calibrated}
-use Rattle.evening.specs.declared.Evening.{Evening}
-use Rattle.evening.specs.declared.Evening.TheVariants.{Fitted, Refused}
+use Rattle.evening.specs.declared.Counted.{Counted}
+use Rattle.refusals.specs.declared.Refusal.{Refusal}
 use Rattle.program_text.specs.Text.{newline}
 use Rattle.program_text.specs.Reading.{Reading, asked, bad_input, read_text}
 use Rattle.program_text.specs.declared.Request.{Request}
@@ -27,9 +27,9 @@ bad_line = 98 ∷ 97 ∷ 100 ∷ 32 ∷ 105 ∷ 110 ∷ 112 ∷ 117 ∷ 116 ∷ 
 -- ---- lines
 
 -- a refusal before the fit; or the counters, which are given but for the invalid quotes, and the fit
-abbrev pub outcome_lines : ℕ → Evening → (ℕ → List ℕ) → List ℕ → List ℕ
-outcome_lines n (Refused r) counters model = named refused_word (number_of r)
-outcome_lines n (Fitted d) counters model = counters d.invalid ++ fit_lines d.answer model n
+abbrev pub outcome_lines : ℕ → Result Counted Refusal → (ℕ → List ℕ) → List ℕ → List ℕ
+outcome_lines n (Err r) counters model = named refused_word (number_of r)
+outcome_lines n (Ok d) counters model = counters d.invalid ++ fit_lines d.answer model n
 
 abbrev pub count_lines : Counts → ℕ → List ℕ
 count_lines k = counter_lines k.pairs (get_or k.skips 0 0) (get_or k.skips 1 0) k.largest

@@ -1,40 +1,42 @@
 // What the evening program prints (document 01, "Marked and run"), as a function from the bytes of its input to the bytes of its output. Where a function has a `requires`, each caller proves it.
 #![tactic(auto)]
 
-ghost use Rattle.std.specs.Prelude.{◌≡◌, ◌*◌, ◌≤◌, length};
+ghost use Rattle.std.specs.Prelude.{◌≡◌, ◌+◌, ◌*◌, ◌≤◌, length};
 ghost use Rattle.config.specs.Configuration.{states};
-ghost use Rattle.calibrator.specs.Record.{memory};
-ghost use Rattle.evening.specs.Evening.{end_evening};
+ghost use Rattle.tally.specs.Lent.{tables_of};
 ghost use Rattle.program_text.specs.Reading.{asked};
 ghost use Rattle.program_lines.specs.Lines.{counter_lines, PutIn};
-ghost use Rattle.program_report.specs.Printed.{outcome_lines, request_config, evening_of, printed, evening_text, most_bytes, text_for};
+ghost use Rattle.program_lines.specs.Inner.{WroteIn};
+ghost use Rattle.program_report.specs.Printed.{outcome_lines, request_config, printed, evening_text, most_bytes, text_for};
 ghost use Rattle.program_report.specs.Inner.{new_record, Zeros};
 
-use calibrator::{Counters, Previous, Record};
+use calibrator::{Counters, Record};
 use config::MicroPriceConfig;
-use evening::{Evening, EveningDone};
-use program_text::{Read, Request};
+use evening::Counted;
+use program_text::{Out, Request};
+use refusals::Refusal;
+use tally::LentTables;
 
 // The most that is printed: five counters, and 27 rows of at most 156 bytes.
 pub const MOST_BYTES: usize = 4350;
 
 // The lines of an evening's answer, its counters and its model table.
-fn put_outcome(out: &mut [u8], answer: Evening, k: Counters, model: &[u64], n: usize) -> usize
-    requires { (n ≤ 27) × (most_bytes ≤ length out.old) }
-    ensures { PutIn most_bytes out.old 0 (outcome_lines n answer (counter_lines k.pairs k.skipped_spread_pairs k.skipped_gap_pairs k.largest_move_half_ticks)
-        model.now) result out.new }
+fn put_outcome(
+    out: &mut Out<'_>,
+    answer: Result<Counted, Refusal>,
+    k: Counters,
+    model: &[u64],
+    n: usize,
+)
+    requires { (n ≤ 27) × (out.old.at + most_bytes ≤ length out.old.bytes.now) }
+    ensures { WroteIn most_bytes out.old (outcome_lines n answer (counter_lines k.pairs k.skipped_spread_pairs k.skipped_gap_pairs k.largest_move_half_ticks)
+        model.now) out.new }
 {
     match answer {
-        Evening::Refused(r) => program_lines::put_named(
-            out,
-            0,
-            b"refused ",
-            refusals::number_of(r),
-        ),
-        Evening::Fitted(d) => {
-            let fitted = d.answer;
-            let at = program_lines::put_counters(out, 0, k, d.invalid);
-            program_lines::put_fit(out, at, fitted, model, n)
+        Err(refusal) => program_lines::put_named(out, b"refused ", refusal.number()),
+        Ok(d) => {
+            program_lines::put_counters(out, k, d.invalid);
+            program_lines::put_fit(out, d.answer, model, n);
         }
     }
 }
@@ -52,60 +54,37 @@ fn new_record() -> Record
     ensures { result ≡ new_record }
 {
     Record {
-        previous: Previous::Nothing,
+        previous: None,
         counters: calibrator::inner::no_counters(),
     }
 }
 
-// The evening of a request, in memory of zeros.
-fn run_evening(
+// The evening of a request, in memory of zeros, and its lines.
+fn put_evening(
+    out: &mut Out<'_>,
     r: Request,
+    n: usize,
     quotes: &[u64],
-    stay: &mut [u64],
-    moved: &mut [u64],
-    move_half_ticks: &mut [i64],
+    tables: &mut LentTables<'_>,
     scratch: &mut [f64],
     model: &mut [u64],
-) -> EveningDone
-    requires { Zeros (states (request_config r)) stay.old moved.old move_half_ticks.old scratch.old model.old }
-    ensures { end_evening result.answer (memory result.next stay.new moved.new move_half_ticks.new) model.new scratch.new ≡ evening_of r quotes.now }
+)
+    requires { (n ≡ states (request_config r)) × (n ≤ 27) × (out.old.at + most_bytes ≤ length out.old.bytes.now)
+        × Zeros n (tables_of tables.old) scratch.old model.old }
+    ensures { WroteIn most_bytes out.old (printed (asked r quotes.now)) out.new }
 {
-    let config = request_config(r);
-    let rec = new_record();
-    evening::inner::calibrate_micro_price(
-        rec,
-        stay,
-        moved,
-        move_half_ticks,
-        config,
+    let mut rec = new_record();
+    let answer = evening::calibrate_micro_price(
+        &mut rec,
+        tables,
+        request_config(r),
         quotes,
         r.start,
         r.end,
         scratch,
         model,
-    )
-}
-
-// The evening of a request, in memory of zeros, and its lines.
-fn put_evening(
-    out: &mut [u8],
-    r: Request,
-    n: usize,
-    quotes: &[u64],
-    stay: &mut [u64],
-    moved: &mut [u64],
-    move_half_ticks: &mut [i64],
-    scratch: &mut [f64],
-    model: &mut [u64],
-) -> usize
-    requires { (n ≡ states (request_config r)) × (n ≤ 27) × (most_bytes ≤ length out.old) × Zeros n stay.old moved.old move_half_ticks.old scratch.old model.old }
-    ensures { PutIn most_bytes out.old 0 (printed (asked r quotes.now)) result out.new }
-{
-    let done = run_evening(r, quotes, stay, moved, move_half_ticks, scratch, model);
-    let answer = done.answer;
-    let next = done.next;
-    let counters = next.counters;
-    put_outcome(out, answer, counters, model, n)
+    );
+    put_outcome(out, answer, rec.counters, model, n);
 }
 
 // Document 01's N.
@@ -116,6 +95,7 @@ fn states_of(r: Request) -> usize
     (r.buckets * r.spread_states) as usize
 }
 
+// Beside cases_shared's: with one for both, each caller would state what bounds its product.
 fn product(a: usize, b: usize) -> usize
     requires { (a ≤ 27) × (b ≤ 64) }
     ensures { (result ≡ a * b) × (result ≤ 27 * b) }
@@ -124,9 +104,9 @@ fn product(a: usize, b: usize) -> usize
 }
 
 // The lines of the evening of a request.
-fn put_request(out: &mut [u8], r: Request, quotes: &[u64]) -> usize
-    requires { (r.buckets * r.spread_states ≤ 27) × (most_bytes ≤ length out.old) }
-    ensures { PutIn most_bytes out.old 0 (printed (asked r quotes.now)) result out.new }
+fn put_request(out: &mut Out<'_>, r: Request, quotes: &[u64])
+    requires { (r.buckets * r.spread_states ≤ 27) × (out.old.at + most_bytes ≤ length out.old.bytes.now) }
+    ensures { WroteIn most_bytes out.old (printed (asked r quotes.now)) out.new }
 {
     let mut stay = [0u64; 729];
     let mut moved = [0u64; 729];
@@ -136,31 +116,30 @@ fn put_request(out: &mut [u8], r: Request, quotes: &[u64]) -> usize
     let n = states_of(r);
     let cells = product(n, n);
     let floats = product(n, 2 * n + 10);
+    let mut tables = LentTables {
+        stay: &mut stay[..cells],
+        moved: &mut moved[..cells],
+        move_half_ticks: &mut move_half_ticks[..n],
+    };
     put_evening(
         out,
         r,
         n,
         quotes,
-        &mut stay[..cells],
-        &mut moved[..cells],
-        &mut move_half_ticks[..n],
+        &mut tables,
         &mut scratch[..floats],
         &mut model[..7 * n],
-    )
+    );
 }
 
 // The lines of a text, with room for its quotes.
-fn put_text(input: &[u8], out: &mut [u8], recording: &mut [u64]) -> usize
-    requires { (most_bytes ≤ length out.old) × (5000 ≤ length recording.old) }
-    ensures { PutIn most_bytes out.old 0 (evening_text input.now) result out.new }
+fn put_text(input: &[u8], out: &mut Out<'_>, recording: &mut [u64])
+    requires { (out.old.at + most_bytes ≤ length out.old.bytes.now) × (5000 ≤ length recording.old) }
+    ensures { WroteIn most_bytes out.old (evening_text input.now) out.new }
 {
-    let found = program_text::read_text(input, recording);
-    match found {
-        Read::Bad => program_text::put_bytes(out, 0, b"bad input\n"),
-        Read::Request(r) => {
-            let words = 5 * r.quotes;
-            put_request(out, r, &recording[..words])
-        }
+    match program_text::read_text(input, recording) {
+        None => out.text(b"bad input\n"),
+        Some(r) => put_request(out, r, &recording[..5 * r.quotes]),
     }
 }
 
@@ -172,5 +151,7 @@ pub fn evening_text(input: &[u8], out: &mut [u8]) -> usize
         return 0;
     }
     let mut recording = [0u64; 5000];
-    put_text(input, out, &mut recording)
+    let mut lines = Out { bytes: out, at: 0 };
+    put_text(input, &mut lines, &mut recording);
+    lines.at
 }

@@ -1,20 +1,21 @@
 -- From the numbers of a text to the answer of `read_text`.
 use Prim.Native.Nat.{ℕ, zero, suc, ◌+◌, ◌-◌, ◌/◌, ◌%◌, ◌≤◌, ◌<◌}
 use mathlib.Core.Path.{◌≡◌, refl, sym, ◌∙◌, ap}
-use mathlib.Core.Bool.{Bool, true, false, cond, not, ◌&&◌}
+use mathlib.Core.Bool.{Bool, true, false, cond, ◌&&◌}
+use mathlib.Core.Logic.{◌⊎◌, inl, inr}
 use mathlib.Core.List.{List, [], ◌∷◌}
 use native.Mathlib.Omega.{arith}
 use lib.Dec.{leb, eqb}
 use lib.ListN.{length, get_or, drop, set, length-set}
 use lib.Seq.{sets, get_or-set_same}
-use borrow.Author.Tests.{leb-true, not-true, not-false}
+use borrow.Author.Tests.{leb-true}
+use Rattle.std.specs.Prelude.{Option, None, Some}
+use Rattle.std.proofs.lemmas.Option.{cond_some}
 use Rattle.basics.proofs.Tests.{zero-not-one, both}
 use Rattle.basics.proofs.Stores.{sets_below}
 use Rattle.program_text.specs.Reading.{whole_lines, few_states, request_of, Reading, asked, bad_input, read_numbers, read_text, read_answer, recording_by, ReadBy}
 use Rattle.program_text.specs.Inner.{begin, numbers_ended, fine, NumbersBy}
-use Rattle.program_text.specs.declared.Read.{Read}
-use Rattle.program_text.specs.declared.Numbers.{Numbers}
-use Rattle.program_text.specs.declared.Numbers.TheVariants.{All, Broken}
+use Rattle.program_text.specs.declared.Request.{Request}
 
 -- stores may run over the end: what lies within can be read
 pub sets-within : (vs l : List ℕ) (i k : ℕ) → k < length vs → i + k < length l → get_or (sets l i vs) (i + k) 0 ≡ get_or vs k 0
@@ -36,46 +37,38 @@ front vs l k h r =
 pub whole-least : (m : ℕ) → whole_lines m ≡ true → 7 ≤ m
 whole-least m e = leb-true 7 m (both (leb 7 m) (eqb ((m - 7) % 5) 0 && leb ((m - 7) / 5) 1000) e).0
 
--- so where both tests passed, line 1 is there
-pub passed-least : {n : ℕ} {whole : Bool} (few : Bool) → whole ≡ whole_lines n → not (whole && few) ≡ false → 7 ≤ n
-passed-least {n} {whole} few u e = whole-least n (sym u ∙ (both whole few (not-false (whole && few) e)).0)
+one_false : (x y : Bool) → (x ≡ false) ⊎ (y ≡ false) → (x && y) ≡ false
+one_false x y (inl e) = ap (λ (t : Bool). t && y) e
+one_false true y (inr e) = e
+one_false false y (inr e) = refl
 
-module _ (f : Bool) (m : ℕ) where
-  pub all_known : (n : ℕ) → All n ≡ cond f (All m) Broken → (f ≡ true) × (n ≡ m)
-  all_known n e = go f refl e
-    where
-      go : (g : Bool) → f ≡ g → All n ≡ cond g (All m) Broken → (f ≡ true) × (n ≡ m)
-      go true h d = (h, cc)
-      go false h d = absurd (zero-not-one cc)
-
-  pub broken-known : Broken ≡ cond f (All m) Broken → f ≡ false
-  broken-known e = go f refl e
-    where
-      go : (g : Bool) → f ≡ g → Broken ≡ cond g (All m) Broken → f ≡ false
-      go true h d = absurd (zero-not-one cc)
-      go false h d = h
+-- how many numbers there are, if each byte may stand where it does
+none-known : (f : Bool) (m : ℕ) → None ≡ cond f (Some m) None → f ≡ false
+none-known true m e = absurd (zero-not-one cc)
+none-known false m e = refl
 
 -- a text is answered by what it reads
-read_by : (g h : Reading) (before : List ℕ) (r : Read) (left : List ℕ) → g ≡ h → r ≡ read_answer h → left ≡ recording_by h before → ReadBy g before r left
+read_by : (g h : Reading) (before : List ℕ) (r : Option Request) (left : List ℕ) → g ≡ h → r ≡ read_answer h → left ≡ recording_by h before
+    → ReadBy g before r left
 read_by g h before r left e f k =
     record { answer = f ∙ sym (ap read_answer e); recording = k ∙ sym (ap (λ (x : Reading). recording_by x before) e) }
 
 -- `line1` is what the first call of `read_numbers` says, with which the text is read from number 0 on
-module _ (b before : List ℕ) {l head : List ℕ} {r : Numbers} (line1 : NumbersBy b 0 l r head) where
+module _ (b before : List ℕ) {l head : List ℕ} {r : Option ℕ} (line1 : NumbersBy b 0 l r head) where
   -- a byte may not stand where it does
-  pub read-broken : r ≡ Broken → ReadBy (read_text b) before Read.Bad before
+  pub read-broken : r ≡ None → ReadBy (read_text b) before None before
   unfolding read_text
   read-broken e =
-      read_by (read_text b) bad_input before Read.Bad before
+      read_by (read_text b) bad_input before None before
       (ap (λ (x : Bool). cond x (read_numbers (numbers_ended begin b)) bad_input)
-      (broken-known (fine begin b) (0 + length (numbers_ended begin b)) (sym e ∙ line1.answer)))
+      (none-known (fine begin b) (0 + length (numbers_ended begin b)) (sym e ∙ line1.answer)))
       refl
       refl
 
   -- n numbers, of which as many as there are stand in front of seven words
-  module _ {n : ℕ} (found : r ≡ All n) (seven : length l ≡ 7) where
-    known : (fine begin b ≡ true) × (n ≡ 0 + length (numbers_ended begin b))
-    known = all_known (fine begin b) (0 + length (numbers_ended begin b)) n (sym found ∙ line1.answer)
+  module _ {n : ℕ} (found : r ≡ Some n) (seven : length l ≡ 7) where
+    known : (fine begin b ≡ true) × (0 + length (numbers_ended begin b) ≡ n)
+    known = cond_some (fine begin b) (0 + length (numbers_ended begin b)) n (sym line1.answer ∙ found)
 
     long : n ≡ length (numbers_ended begin b)
     long = let e = known.1 in omega arith
@@ -108,40 +101,37 @@ module _ (b before : List ℕ) {l head : List ℕ} {r : Numbers} (line1 : Number
             ap (λ (x : Bool). x && few_states (get_or head 1 0) (get_or head 2 0)) e
             ∙ sym (ap (λ (x : Bool). x && few_states (get_or (numbers_ended begin b) 1 0) (get_or (numbers_ended begin b) 2 0)) (ap whole_lines (sym long) ∙ e))
 
-    -- with the answers of `whole_lines` and `few_states`
-    module _ {whole few : Bool} (u : whole ≡ whole_lines n) (v : few ≡ few_states (get_or head 1 0) (get_or head 2 0)) where
-      test-is : (whole && few) ≡ (whole_lines (length (numbers_ended begin b)) && few_states (get_or (numbers_ended begin b) 1 0) (get_or (numbers_ended begin b) 2 0))
-      test-is = (λ i. u i && v i) ∙ tested
+    pub read-refused : (whole_lines n ≡ false) ⊎ (few_states (get_or head 1 0) (get_or head 2 0) ≡ false) → ReadBy (read_text b) before None before
+    read-refused e =
+        read_by (read_text b) bad_input before None before
+        (reads false (sym tested ∙ one_false (whole_lines n) (few_states (get_or head 1 0) (get_or head 2 0)) e)) refl refl
 
-      pub read-refused : not (whole && few) ≡ true → ReadBy (read_text b) before Read.Bad before
-      read-refused e = read_by (read_text b) bad_input before Read.Bad before (reads false (sym test-is ∙ not-true (whole && few) e)) refl refl
-
-      -- the second call of `read_numbers` stores the words of the quotes
-      pub read_asked : {left : List ℕ} {s : Numbers} → not (whole && few) ≡ false → NumbersBy b 7 before s left
-          → ReadBy (read_text b) before
-          (Read.Request
-          (record {
-            tick = get_or head 0 0;
-            buckets = get_or head 1 0;
-            spread_states = get_or head 2 0;
-            least = get_or head 3 0;
-            gap = get_or head 4 0;
-            start = get_or head 5 0;
-            end = get_or head 6 0;
-            quotes = (n - 7) / 5;
-          }))
-          left
-      read_asked {left} e quotes =
-          let h = passed-least few u e in
-          let p0 = at 0 (omega arith) h in
-          let p1 = at 1 (omega arith) h in
-          let p2 = at 2 (omega arith) h in
-          let p3 = at 3 (omega arith) h in
-          let p4 = at 4 (omega arith) h in
-          let p5 = at 5 (omega arith) h in
-          let p6 = at 6 (omega arith) h in
-          read_by (read_text b) (asked (request_of (numbers_ended begin b)) (drop 7 (numbers_ended begin b))) before _ left
-          (reads true (sym test-is ∙ not-false (whole && few) e))
-          (λ i. Read.Request
-          (record { tick = p0 i; buckets = p1 i; spread_states = p2 i; least = p3 i; gap = p4 i; start = p5 i; end = p6 i; quotes = (long i - 7) / 5 }))
-          quotes.stored
+    -- the second call of `read_numbers` stores the words of the quotes
+    pub read_asked : {left : List ℕ} {s : Option ℕ} → whole_lines n ≡ true → few_states (get_or head 1 0) (get_or head 2 0) ≡ true → NumbersBy b 7 before s left
+        → ReadBy (read_text b) before
+        (Some
+        (record {
+          tick = get_or head 0 0;
+          buckets = get_or head 1 0;
+          spread_states = get_or head 2 0;
+          least = get_or head 3 0;
+          gap = get_or head 4 0;
+          start = get_or head 5 0;
+          end = get_or head 6 0;
+          quotes = (n - 7) / 5;
+        }))
+        left
+    read_asked {left} u v quotes =
+        let h = whole-least n u in
+        let p0 = at 0 (omega arith) h in
+        let p1 = at 1 (omega arith) h in
+        let p2 = at 2 (omega arith) h in
+        let p3 = at 3 (omega arith) h in
+        let p4 = at 4 (omega arith) h in
+        let p5 = at 5 (omega arith) h in
+        let p6 = at 6 (omega arith) h in
+        read_by (read_text b) (asked (request_of (numbers_ended begin b)) (drop 7 (numbers_ended begin b))) before _ left
+        (reads true (sym tested ∙ (λ i. u i && v i)))
+        (λ i. Some
+        (record { tick = p0 i; buckets = p1 i; spread_states = p2 i; least = p3 i; gap = p4 i; start = p5 i; end = p6 i; quotes = (long i - 7) / 5 }))
+        quotes.stored

@@ -9,16 +9,17 @@ use lib.Dec.{leb, ltb, eqb}
 use lib.ListN.{length, get_or, take, drop, length-drop}
 use lib.Seq.{sets, sets-eq, take_at}
 use borrow.Author.Tests.{lt-ltb, le-ltb, eq-eqb, ne_eqb, le-leb, eqb-true, leb-true, eqb-false, not-true}
+use Rattle.std.specs.Prelude.{Option, None, Some, is_some, IfSome}
+use Rattle.std.specs.Option.{option_map}
+use Rattle.std.proofs.lemmas.Option.{cond_some, same_Some}
 use Rattle.basics.proofs.Tests.{zero-not-one, both, le-or-lt, eqb_same}
 use Rattle.image_words.specs.Words.{AllWords}
 use Rattle.program_text.specs.Text.{digit, decimal, space, newline, line_of, quote_lines, first_line, text_of, Admissible}
 use Rattle.program_text.specs.Reading.{whole_lines, few_states, request_of, asked, bad_input, read_numbers, read_text}
-use Rattle.program_text.specs.Inner.{scan, separator, is_digit, takes, digit_step, step_of, begin, numbers_ended, fine}
+use Rattle.program_text.specs.Inner.{scan, separator, is_digit, takes, with_digit, with_ended, ended, step_of, begin, numbers_ended, fine}
 use Rattle.program_text.specs.declared.Request.{Request}
 use Rattle.program_text.specs.declared.Scan.{Scan}
-use Rattle.program_text.specs.declared.Step.{Step}
-use Rattle.program_text.specs.declared.Step.TheVariants.{On, Off}
-use Rattle.program_text.proofs.Steps.{takes-below, digit-on, end_on, step-digit, step-below}
+use Rattle.program_text.proofs.Steps.{takes-below, step-digit, step-below}
 use Rattle.program_text.proofs.Walks.{Went, digit-read, number-ended, went, ended-on, ended-off, fine-on, fine-off}
 use Rattle.program_text.proofs.Decimals.{decimal-one, decimal-more, decimal_step}
 
@@ -31,12 +32,16 @@ flat k (x ∷ xs) = decimal x ++ separator k ∷ flat (k + 1) xs
 -- ---- from the numbers to the walk
 
 -- a digit that may follow is read
-digit-goes : (k v d : ℕ) (b : Bool) → d ≤ 9 → takes b v d ≡ true → step_of (scan k v b) (digit d) ≡ On (scan k (v * 10 + d) true)
-digit-goes k v d b h e =
+digit-goes : (k d w : ℕ) (x : Option ℕ) → d ≤ 9 → with_digit x d ≡ Some w → step_of (scan k x) (digit d) ≡ Some (scan k (Some w))
+digit-goes k d w x h e =
     let z : digit d - 48 ≡ d = omega arith in
-    step-digit (scan k v b) (digit d) (omega arith) (omega arith)
-    ∙ ap (digit_step (scan k v b)) z
-    ∙ digit-on (scan k v b) d e
+    step-digit (scan k x) (digit d) (omega arith) (omega arith)
+    ∙ (λ i. option_map (λ v. scan k (Some v)) (with_digit x (z i)))
+    ∙ ap (λ (y : Option ℕ). option_map (λ v. scan k (Some v)) y) e
+
+-- behind digits that are no first zero a digit that keeps the number below 2^64 may follow
+follows : (v d : ℕ) → 1 ≤ v → v * 10 + d < 2 ^ 64 → with_digit (Some v) d ≡ Some (v * 10 + d)
+follows v d h g = λ i. cond (not (ne_eqb v 0 (λ e. omega arith) i) && lt-ltb (v * 10 + d) (2 ^ 64) g i) (Some (v * 10 + d)) None
 
 after-below : (k : ℕ) → separator k < 48
 after-below k = by (ltb k 6) (eqb ((k - 6) % 5) 0)
@@ -46,140 +51,142 @@ after-below k = by (ltb k 6) (eqb ((k - 6) % 5) 0)
     by false true = omega arith
     by false false = omega arith
 
-end_goes : (k v : ℕ) → step_of (scan k v true) (separator k) ≡ On (scan (k + 1) 0 false)
+end_goes : (k v : ℕ) → step_of (scan k (Some v)) (separator k) ≡ Some (scan (k + 1) None)
 end_goes k v =
-    step-below (scan k v true) (separator k) (after-below k)
-    ∙ end_on (scan k v true) (separator k) (eqb_same (separator k))
+    step-below (scan k (Some v)) (separator k) (after-below k)
+    ∙ ap (λ (t : Bool). cond t (Some (scan (k + 1) None)) None) (eqb_same (separator k))
 
 -- the walk over the digits of a number
 pub record Same (s : Scan) (b : List ℕ) (t : Scan) (c : List ℕ) : Type 0 where
   pub same-fine : fine s b ≡ fine t c
   pub same_ended : numbers_ended s b ≡ numbers_ended t c
 
-same-digit : (k v d : ℕ) (b : Bool) (r : List ℕ) (w : ℕ) → d ≤ 9 → takes b v d ≡ true → v * 10 + d ≡ w → Same (scan k v b) (digit d ∷ r) (scan k w true) r
-same-digit k v d b r w h e f =
-    let g = digit-goes k v d b h e ∙ ap (λ (x : ℕ). On (scan k x true)) f in
-    record { same-fine = fine-on (scan k v b) (digit d) r (scan k w true) g; same_ended = ended-on (scan k v b) (digit d) r (scan k w true) g }
+same-digit : (k d w : ℕ) (x : Option ℕ) (r : List ℕ) → d ≤ 9 → with_digit x d ≡ Some w → Same (scan k x) (digit d ∷ r) (scan k (Some w)) r
+same-digit k d w x r h e =
+    let g = digit-goes k d w x h e in
+    record { same-fine = fine-on (scan k x) (digit d) r (scan k (Some w)) g; same_ended = ended-on (scan k x) (digit d) r (scan k (Some w)) g }
 
-walk-digit : (n k : ℕ) (r : List ℕ) → n < 10 → Same (scan k 0 false) (decimal n ++ r) (scan k n true) r
+walk-digit : (n k : ℕ) (r : List ℕ) → n < 10 → Same (scan k None) (decimal n ++ r) (scan k (Some n)) r
 walk-digit n k r s =
-    subst (λ (l : List ℕ). Same (scan k 0 false) (l ++ r) (scan k n true) r) (sym (decimal-one n s))
-    (same-digit k 0 n false r n (omega arith) (lt-ltb (0 * 10 + n) (2 ^ 64) (omega arith)) (omega arith))
+    subst (λ (l : List ℕ). Same (scan k None) (l ++ r) (scan k (Some n)) r) (sym (decimal-one n s)) (same-digit k n n None r (omega arith) refl)
 
-walk-number : (fuel n k : ℕ) (r : List ℕ) → n ≤ fuel → n < 2 ^ 64 → Same (scan k 0 false) (decimal n ++ r) (scan k n true) r
+walk-number : (fuel n k : ℕ) (r : List ℕ) → n ≤ fuel → n < 2 ^ 64 → Same (scan k None) (decimal n ++ r) (scan k (Some n)) r
 walk-number zero n k r h g = walk-digit n k r (omega arith)
 walk-number (suc fuel) n k r h g =
     by (le-or-lt 10 n) (λ s. walk-number fuel (n / 10) k (digit (n % 10) ∷ r) (omega arith) (omega arith))
   where
-    by : (10 ≤ n) ⊎ (n < 10) → (10 ≤ n → Same (scan k 0 false) (decimal (n / 10) ++ digit (n % 10) ∷ r) (scan k (n / 10) true) (digit (n % 10) ∷ r))
-        → Same (scan k 0 false) (decimal n ++ r) (scan k n true) r
+    by : (10 ≤ n) ⊎ (n < 10) → (10 ≤ n → Same (scan k None) (decimal (n / 10) ++ digit (n % 10) ∷ r) (scan k (Some (n / 10))) (digit (n % 10) ∷ r))
+        → Same (scan k None) (decimal n ++ r) (scan k (Some n)) r
     by (inr s) f = walk-digit n k r s
     by (inl s) f =
         let first = f s in
-        let positive : eqb (n / 10) 0 ≡ false = ne_eqb (n / 10) 0 (λ e. omega arith) in
-        let small : ltb (n / 10 * 10 + n % 10) (2 ^ 64) ≡ true = lt-ltb (n / 10 * 10 + n % 10) (2 ^ 64) (omega arith) in
-        let last = same-digit k (n / 10) (n % 10) true r n (omega arith) (λ i. not (positive i) && small i) (omega arith) in
+        let whole : n / 10 * 10 + n % 10 ≡ n = omega arith in
+        let last = same-digit k (n % 10) n (Some (n / 10)) r (omega arith) (follows (n / 10) (n % 10) (omega arith) (omega arith) ∙ ap Some whole) in
         let split : decimal n ++ r ≡ decimal (n / 10) ++ digit (n % 10) ∷ r =
         ap (λ (l : List ℕ). l ++ r) (decimal-more n s) ∙ append_assoc (decimal (n / 10)) (digit (n % 10) ∷ []) r in
         record {
-          same-fine = ap (fine (scan k 0 false)) split ∙ first.same-fine ∙ last.same-fine;
-          same_ended = ap (numbers_ended (scan k 0 false)) split ∙ first.same_ended ∙ last.same_ended;
+          same-fine = ap (fine (scan k None)) split ∙ first.same-fine ∙ last.same-fine;
+          same_ended = ap (numbers_ended (scan k None)) split ∙ first.same_ended ∙ last.same_ended;
         }
 
-pub walk-flat : (xs : List ℕ) (k : ℕ) → AllWords xs → (fine (scan k 0 false) (flat k xs) ≡ true) × (numbers_ended (scan k 0 false) (flat k xs) ≡ xs)
+pub walk-flat : (xs : List ℕ) (k : ℕ) → AllWords xs → (fine (scan k None) (flat k xs) ≡ true) × (numbers_ended (scan k None) (flat k xs) ≡ xs)
 walk-flat [] k a = (refl, refl)
 walk-flat (x ∷ xs) k a =
     let w = walk-number x x k (separator k ∷ flat (k + 1) xs) (omega arith) a.0 in
     let m = walk-flat xs (k + 1) a.1 in (
-      w.same-fine ∙ fine-on (scan k x true) (separator k) (flat (k + 1) xs) (scan (k + 1) 0 false) (end_goes k x) ∙ m.0,
-      w.same_ended ∙ ended-on (scan k x true) (separator k) (flat (k + 1) xs) (scan (k + 1) 0 false) (end_goes k x) ∙ ap (λ (l : List ℕ). x ∷ l) m.1,
+      w.same-fine ∙ fine-on (scan k (Some x)) (separator k) (flat (k + 1) xs) (scan (k + 1) None) (end_goes k x) ∙ m.0,
+      w.same_ended ∙ ended-on (scan k (Some x)) (separator k) (flat (k + 1) xs) (scan (k + 1) None) (end_goes k x) ∙ ap (λ (l : List ℕ). x ∷ l) m.1,
     )
 
 -- ---- from the walk to the numbers
 
 -- the digits read so far of a number that has not ended
-abbrev pub pending : Scan → List ℕ
-pending s = cond s.begun (decimal s.value) []
+abbrev pub pending : Option ℕ → List ℕ
+pending None = []
+pending (Some v) = decimal v
 
--- a scan at which a walk can be
-pub record Sound (s : Scan) : Type 0 where
-  pub fresh : s.begun ≡ false → s.value ≡ 0
-  pub word : s.value < 2 ^ 64
+-- where a walk can be, their value is below 2^64
+abbrev pub Sound : Option ℕ → Type 0
+Sound x = IfSome x (λ v. v < 2 ^ 64)
 
--- a digit more is one byte more
-pending-more : (b : Bool) (v d : ℕ) (r : List ℕ) → (b ≡ false → v ≡ 0) → takes b v d ≡ true → d ≤ 9
-    → decimal (v * 10 + d) ++ r ≡ cond b (decimal v) [] ++ digit d ∷ r
-pending-more true v d r f e h =
-    let n = eqb-false v 0 (not-true (eqb v 0) (both (not (true && eqb v 0)) (ltb (v * 10 + d) (2 ^ 64)) e).0) in
-    let p : 1 ≤ v = one-at-least v n in
-    ap (λ (l : List ℕ). l ++ r) (decimal_step v d p h) ∙ append_assoc (decimal v) (digit d ∷ []) r
+-- a digit more is one byte more, and the value stays below 2^64
+digit-more : (x : Option ℕ) (d w : ℕ) (r : List ℕ) → with_digit x d ≡ Some w → d ≤ 9 → (decimal w ++ r ≡ pending x ++ digit d ∷ r) × (w < 2 ^ 64)
+digit-more None d w r e h =
+    let z : d ≡ w = same_Some d w e in
+    (ap (λ (n : ℕ). decimal n ++ r) (sym z) ∙ ap (λ (l : List ℕ). l ++ r) (decimal-one d (omega arith)), omega arith)
+digit-more (Some v) d w r e h =
+    let t = cond_some (takes v d) (v * 10 + d) w e in
+    let n = eqb-false v 0 (not-true (eqb v 0) (both (not (eqb v 0)) (ltb (v * 10 + d) (2 ^ 64)) t.0).0) in
+    let p : 1 ≤ v = one-at-least v n in (
+      ap (λ (m : ℕ). decimal m ++ r) (sym t.1)
+          ∙ ap (λ (l : List ℕ). l ++ r) (decimal_step v d p h)
+          ∙ append_assoc (decimal v) (digit d ∷ []) r,
+      omega (arith, takes-below v d t.0, t.1),
+    )
   where
     one-at-least : (v : ℕ) → (v ≡ 0 → ⊥) → 1 ≤ v
     one-at-least zero n = absurd (n refl)
     one-at-least (suc v) n = omega arith
-pending-more false v d r f e h =
-    let z : v * 10 + d ≡ d = omega (arith, f refl) in
-    ap (λ (n : ℕ). decimal n ++ r) z ∙ ap (λ (l : List ℕ). l ++ r) (decimal-one d (omega arith))
 
 digit-known : (b : ℕ) → is_digit b ≡ true → (48 ≤ b) × (b ≤ 57)
 digit-known b e = let t = both (leb 48 b) (leb b 57) e in (leb-true 48 b t.0, leb-true b 57 t.1)
 
-sound-digit : (s : Scan) (b : ℕ) → takes s.begun s.value (b - 48) ≡ true → Sound (scan s.count (s.value * 10 + (b - 48)) true)
-sound-digit s b q = record { fresh = λ e. absurd (zero-not-one cc); word = takes-below s.begun s.value (b - 48) q }
-
-sound-end : (k : ℕ) → Sound (scan k 0 false)
-sound-end k = record { fresh = λ e. refl; word = omega arith }
-
 -- what is written of the pending digits and the bytes that are left
-written_step : (s : Scan) (b : ℕ) (t : Scan) (bs : List ℕ) → Sound s → Went s b t
-    → numbers_ended s (b ∷ bs) ≡ cond t.begun (numbers_ended t bs) (s.value ∷ numbers_ended t bs)
-    → pending t ++ bs ≡ flat t.count (numbers_ended t bs) → pending s ++ b ∷ bs ≡ flat s.count (numbers_ended s (b ∷ bs))
-written_step s b t bs o (digit-read p q) e h =
+written_step : (s : Scan) (b : ℕ) (t : Scan) (bs : List ℕ) → Went s b t
+    → numbers_ended s (b ∷ bs) ≡ with_ended (ended s.digits t.digits) (numbers_ended t bs)
+    → pending t.digits ++ bs ≡ flat t.count (numbers_ended t bs) → pending s.digits ++ b ∷ bs ≡ flat s.count (numbers_ended s (b ∷ bs))
+written_step s b t bs (digit-read p v q) e h =
     let d = digit-known b p in
     let z : digit (b - 48) ≡ b = omega arith in
-    sym (pending-more s.begun s.value (b - 48) bs o.fresh q (omega arith) ∙ ap (λ (x : ℕ). pending s ++ x ∷ bs) z)
+    sym ((digit-more s.digits (b - 48) v bs q (omega arith)).0 ∙ ap (λ (x : ℕ). pending s.digits ++ x ∷ bs) z)
     ∙ h
     ∙ ap (flat s.count) (sym e)
-written_step s b t bs o (number-ended p q) e h =
-    ap (λ (x : Bool). cond x (decimal s.value) [] ++ b ∷ bs) p
-    ∙ (λ i. decimal s.value ++ q i ∷ h i)
+written_step s b t bs (number-ended v p q) e h =
+    ap (λ (x : Option ℕ). pending x ++ b ∷ bs) p
+    ∙ (λ i. decimal v ++ q i ∷ h i)
+    ∙ ap (λ (x : Option ℕ). flat s.count (with_ended x (numbers_ended t bs))) (sym p)
     ∙ ap (flat s.count) (sym e)
 
-sound-step : (s : Scan) (b : ℕ) (t : Scan) → Went s b t → Sound t
-sound-step s b t (digit-read p q) = sound-digit s b q
-sound-step s b t (number-ended p q) = sound-end (s.count + 1)
+sound-step : (s : Scan) (b : ℕ) (t : Scan) → Went s b t → Sound t.digits
+sound-step s b t (digit-read p v q) = let d = digit-known b p in (digit-more s.digits (b - 48) v [] q (omega arith)).1
+sound-step s b t (number-ended v p q) = tt
 
 -- a byte at which the walk stops, or goes on
-pub goes : (s : Scan) (b : ℕ) → (step_of s b ≡ Off) ⊎ ((t : Scan) × (step_of s b ≡ On t))
+pub goes : (s : Scan) (b : ℕ) → (step_of s b ≡ None) ⊎ ((t : Scan) × (step_of s b ≡ Some t))
 goes s b = go (step_of s b) refl
   where
-    go : (r : Step) → step_of s b ≡ r → (step_of s b ≡ Off) ⊎ ((t : Scan) × (step_of s b ≡ On t))
-    go Off e = inl e
-    go (On t) e = inr (t, e)
+    go : (r : Option Scan) → step_of s b ≡ r → (step_of s b ≡ None) ⊎ ((t : Scan) × (step_of s b ≡ Some t))
+    go None e = inl e
+    go (Some t) e = inr (t, e)
 
-pub written : (b : List ℕ) (s : Scan) → Sound s → fine s b ≡ true → pending s ++ b ≡ flat s.count (numbers_ended s b)
-written [] s o e = ap (λ (x : Bool). cond x (decimal s.value) [] ++ []) (not-true s.begun e)
-written (b ∷ bs) s o e = by (goes s b) (λ t g f. written bs t g f)
+pub written : (b : List ℕ) (s : Scan) → fine s b ≡ true → pending s.digits ++ b ≡ flat s.count (numbers_ended s b)
+written [] s e = none s.digits (not-true (is_some s.digits) e)
   where
-    by : (step_of s b ≡ Off) ⊎ ((t : Scan) × (step_of s b ≡ On t))
-        → ((t : Scan) → Sound t → fine t bs ≡ true → pending t ++ bs ≡ flat t.count (numbers_ended t bs))
-        → pending s ++ b ∷ bs ≡ flat s.count (numbers_ended s (b ∷ bs))
+    none : (x : Option ℕ) → is_some x ≡ false → pending x ++ [] ≡ []
+    none None f = refl
+    none (Some v) f = absurd (zero-not-one cc)
+written (b ∷ bs) s e = by (goes s b) (λ t f. written bs t f)
+  where
+    by : (step_of s b ≡ None) ⊎ ((t : Scan) × (step_of s b ≡ Some t))
+        → ((t : Scan) → fine t bs ≡ true → pending t.digits ++ bs ≡ flat t.count (numbers_ended t bs))
+        → pending s.digits ++ b ∷ bs ≡ flat s.count (numbers_ended s (b ∷ bs))
     by (inl g) f = let n = sym (fine-off s b bs g) ∙ e in absurd (zero-not-one cc)
-    by (inr (t, g)) f =
-        written_step s b t bs o (went s b t g) (ended-on s b bs t g) (f t (sound-step s b t (went s b t g)) (sym (fine-on s b bs t g) ∙ e))
+    by (inr (t, g)) f = written_step s b t bs (went s b t g) (ended-on s b bs t g) (f t (sym (fine-on s b bs t g) ∙ e))
 
-pub ended-words : (b : List ℕ) (s : Scan) → Sound s → AllWords (numbers_ended s b)
+pub ended-words : (b : List ℕ) (s : Scan) → Sound s.digits → AllWords (numbers_ended s b)
 ended-words [] s o = tt
 ended-words (b ∷ bs) s o = by (goes s b) (λ t g. ended-words bs t g)
   where
-    either_way : (x : Bool) (l : List ℕ) → AllWords l → AllWords (cond x l (s.value ∷ l))
-    either_way true l a = a
-    either_way false l a = (o.word, a)
+    either_way : (x y : Option ℕ) (l : List ℕ) → Sound x → AllWords l → AllWords (with_ended (ended x y) l)
+    either_way x (Some w) l o a = a
+    either_way None None l o a = a
+    either_way (Some v) None l o a = (o, a)
 
-    by : (step_of s b ≡ Off) ⊎ ((t : Scan) × (step_of s b ≡ On t)) → ((t : Scan) → Sound t → AllWords (numbers_ended t bs)) → AllWords (numbers_ended s (b ∷ bs))
+    by : (step_of s b ≡ None) ⊎ ((t : Scan) × (step_of s b ≡ Some t)) → ((t : Scan) → Sound t.digits → AllWords (numbers_ended t bs))
+        → AllWords (numbers_ended s (b ∷ bs))
     by (inl g) f = subst AllWords (sym (ended-off s b bs g)) tt
     by (inr (t, g)) f =
-        subst AllWords (sym (ended-on s b bs t g)) (either_way t.begun (numbers_ended t bs) (f t (sound-step s b t (went s b t g))))
+        subst AllWords (sym (ended-on s b bs t g)) (either_way s.digits t.digits (numbers_ended t bs) o (f t (sound-step s b t (went s b t g))))
 
 -- ---- lines
 
@@ -288,9 +295,9 @@ read-text b r ws e =
         let whole : (length all - 7) % 5 ≡ 0 = eqb-true ((length all - 7) % 5) 0 v.0 in
         let five : length (drop 7 all) ≡ 5 * ((length all - 7) / 5) = omega (arith, length-drop 7 all) in
         let split = line-split all least in (
-          sym (text-flat (request_of all) (drop 7 all) five) ∙ ap (flat 0) split ∙ sym (written b begin (sound-end 0) f),
+          sym (text-flat (request_of all) (drop 7 all) five) ∙ ap (flat 0) split ∙ sym (written b begin f),
           record {
-            numbers = subst AllWords (sym split) (ended-words b begin (sound-end 0));
+            numbers = subst AllWords (sym split) (ended-words b begin tt);
             states = leb-true (get_or all 1 0 * get_or all 2 0) 27 p.1;
             few = leb-true ((length all - 7) / 5) 1000 v.1;
             five = five;

@@ -1,15 +1,16 @@
 -- Bytes written one after another.
+use borrow.Rule.Slice.PartMut.{put_mid}
 use Prim.Native.Nat.{ℕ, zero, suc, ◌+◌, ◌-◌, ◌/◌, ◌%◌, ◌≤◌, ◌<◌}
 use mathlib.Core.Path.{◌≡◌, refl, sym, ◌∙◌, ap, subst}
-use mathlib.Core.Bool.{Bool, cond}
-use mathlib.Core.List.{List, [], ◌∷◌, ◌++◌}
+use mathlib.Core.List.{List, [], ◌∷◌, ◌++◌, append_assoc}
 use native.Mathlib.Omega.{arith}
-use lib.ListN.{length, get_or, drop, set, length-append, drop_of_length-le}
-use lib.Seq.{sets, length-sets, drop-cons}
-use borrow.Author.Tests.{lt-ltb, le-ltb}
+use lib.ListN.{length, take, drop, length-append}
+use lib.Seq.{sets, sets-eq, length-sets}
+use Rattle.std.proofs.lemmas.List.{drop-drop}
 use Rattle.basics.proofs.Stores.{sets-append}
 use Rattle.program_text.specs.Text.{decimal}
-use Rattle.program_text.specs.Written.{hex_digit, hex_digits, hex16, Put}
+use Rattle.program_text.specs.Written.{hex_digit, hex_digits, hex16, Put, Wrote}
+use Rattle.program_text.specs.declared.Out.{Out}
 use Rattle.program_text.proofs.Decimals.{decimal-one, decimal-more, length_more}
 
 -- the output keeps its length
@@ -27,43 +28,42 @@ put_both before mid left at j k xs ys p q =
           ∙ sym (sets-append xs ys before at);
     }
 
-pub put_one : (before : List ℕ) (at x : ℕ) → Put before at (x ∷ []) (at + 1) (set before at x)
-put_one before at x = record { next-is = refl; stored = refl }
-
--- one byte more
-pub put_last : (before mid : List ℕ) (at j x : ℕ) (xs : List ℕ) → Put before at xs j mid → Put before at (xs ++ x ∷ []) (j + 1) (set mid j x)
-put_last before mid at j x xs p = put_both before mid (set mid j x) at j (j + 1) xs (x ∷ []) p (put_one mid j x)
-
--- ---- a number
-
-pub put-digit : (before : List ℕ) (at n : ℕ) → n < 10 → Put before at (decimal n) (at + 1) (set before at (48 + n))
-put-digit before at n h = subst (λ (l : List ℕ). Put before at l (at + 1) (set before at (48 + n))) (sym (decimal-one n h)) (put_one before at (48 + n))
-
-pub put-more : (before mid : List ℕ) (at j n : ℕ) → 10 ≤ n → Put before at (decimal (n / 10)) j mid
-    → Put before at (decimal n) (j + 1) (set mid j (48 + n % 10))
-put-more before mid at j n h p =
-    subst (λ (l : List ℕ). Put before at l (j + 1) (set mid j (48 + n % 10))) (sym (decimal-more n h))
-    (put_last before mid at j (48 + n % 10) (decimal (n / 10)) p)
-
-pub length-one : (n : ℕ) → n < 10 → length (decimal n) ≡ 1
-length-one n h = ap length (decimal-one n h)
+-- given bytes, copied into the part of the output that they fill
+pub put-part : (out bytes part : List ℕ) (at : ℕ) → at + length bytes ≤ length out → part ≡ bytes
+    → Put out at bytes (at + length bytes) (put_mid at (at + length bytes - at) out part)
+put-part out bytes part at h e =
+    let n : at + length bytes - at ≡ length bytes = omega arith in
+    record {
+      next-is = refl;
+      stored =
+          rw (e, n, sets-eq bytes out at h, drop-drop (length bytes) at out, append_assoc (take at out) bytes (drop (at + length bytes) out));
+    }
 
 -- there is room for one digit
 pub digit-inside : (before : List ℕ) (at n : ℕ) → n < 10 → at + length (decimal n) ≤ length before → at < length before
-digit-inside before at n h r = omega (arith, length-one n h)
+digit-inside before at n h r = omega (arith, ap length (decimal-one n h))
 
--- after the digits of n / 10 there is room for one digit more
-pub more-inside : {before mid : List ℕ} {at j n : ℕ} → 10 ≤ n → at + length (decimal n) ≤ length before → Put before at (decimal (n / 10)) j mid
-    → j < length mid
-more-inside {before} {mid} {at} {j} {n} h r p = omega (arith, length_more n h, p.next-is, put-length before at (decimal (n / 10)) j mid p)
+module _ {before left : Out} where
+  pub wrote_both : {mid : Out} {xs ys : List ℕ} → Wrote before xs mid → Wrote mid ys left → Wrote before (xs ++ ys) left
+  wrote_both p q = record { put = put_both _ _ _ _ _ _ _ _ p.put q.put; same = q.same ∙ p.same; long = q.long ∙ p.long }
+
+  -- ---- a number
+
+  -- after the digits of n / 10 there is room for one digit more
+  pub more-inside : {n : ℕ} → 10 ≤ n → before.at + length (decimal n) ≤ length before.bytes.now → Wrote before (decimal (n / 10)) left
+      → left.at < length left.bytes.now
+  more-inside {n} h r p = omega (arith, length_more n h, p.put.next-is, p.long)
+
+  pub one_digit : (n : ℕ) → n < 10 → Wrote before ((48 + n % 10) ∷ []) left → Wrote before (decimal n) left
+  one_digit n h p =
+      let e : 48 + n ≡ 48 + n % 10 = omega arith in
+      subst (λ (l : List ℕ). Wrote before l left) (sym (decimal-one n h ∙ ap (λ (x : ℕ). x ∷ []) e)) p
+
+  pub more_digits : {mid : Out} (n : ℕ) → 10 ≤ n → Wrote before (decimal (n / 10)) mid → Wrote mid ((48 + n % 10) ∷ []) left
+      → Wrote before (decimal n) left
+  more_digits n h p q = subst (λ (l : List ℕ). Wrote before l left) (sym (decimal-more n h)) (wrote_both p q)
 
 -- ---- hexadecimal digits
-
-pub hex-figure : (d : ℕ) → d < 10 → 48 + d ≡ hex_digit d
-hex-figure d h = ap (λ (t : Bool). cond t (48 + d) (87 + d)) (sym (lt-ltb d 10 h))
-
-pub hex-letter : (d : ℕ) → 10 ≤ d → 87 + d ≡ hex_digit d
-hex-letter d h = ap (λ (t : Bool). cond t (48 + d) (87 + d)) (sym (le-ltb d 10 h))
 
 pub length-hex : (k w : ℕ) → length (hex_digits k w) ≡ k
 length-hex zero w = refl
@@ -73,30 +73,14 @@ pub length-hex16 : (w : ℕ) → length (hex16 w) ≡ 16
 unfolding hex16
 length-hex16 w = length-hex 16 w
 
-pub put-none : (before : List ℕ) (at w k : ℕ) → k ≡ 0 → Put before at (hex_digits k w) at before
-put-none before at w k e = subst (λ (j : ℕ). Put before at (hex_digits j w) at before) (sym e) (record { next-is = omega arith; stored = refl })
+module _ {before left : Out} where
+  -- after the first k − 1 digits there is room for one more
+  pub hex-inside : (w k : ℕ) → 0 < k → before.at + k ≤ length before.bytes.now → Wrote before (hex_digits (k - 1) (w / 16)) left
+      → left.at < length left.bytes.now
+  hex-inside w k h r p = omega (arith, length-hex (k - 1) (w / 16), p.put.next-is, p.long)
 
--- after the first k − 1 digits there is room for one more
-pub hex-inside : {before mid : List ℕ} {at j : ℕ} (w k : ℕ) → 0 < k → at + k ≤ length before → Put before at (hex_digits (k - 1) (w / 16)) j mid → j < length mid
-hex-inside {before} {mid} {at} {j} w k h r p =
-    omega (arith, length-hex (k - 1) (w / 16), p.next-is, put-length before at (hex_digits (k - 1) (w / 16)) j mid p)
-
-pub put-hex-more : {before mid : List ℕ} {at j d : ℕ} (w k : ℕ) → 0 < k → Put before at (hex_digits (k - 1) (w / 16)) j mid → d ≡ hex_digit (w % 16)
-    → Put before at (hex_digits k w) (j + 1) (set mid j d)
-put-hex-more {before} {mid} {at} {j} {d} w k h p f =
-    let e : suc (k - 1) ≡ k = omega arith in
-    rw f (subst (λ (m : ℕ). Put before at (hex_digits m w) (j + 1) (set mid j (hex_digit (w % 16)))) e
-    (put_last before mid at j (hex_digit (w % 16)) (hex_digits (k - 1) (w / 16)) p))
-
--- ---- given bytes
-
-pub bytes-step : (out : List ℕ) (at i : ℕ) (bytes : List ℕ) → i < length bytes
-    → sets (set out (at + i) (get_or bytes i 0)) (at + (i + 1)) (drop (i + 1) bytes) ≡ sets out (at + i) (drop i bytes)
-bytes-step out at i bytes h =
-    let e : at + (i + 1) ≡ suc (at + i) = omega arith in
-    let f : i + 1 ≡ suc i = omega arith in
-    (λ u. sets (set out (at + i) (get_or bytes i 0)) (e u) (drop (f u) bytes))
-    ∙ ap (λ (r : List ℕ). sets out (at + i) r) (sym (drop-cons bytes i 0 h))
-
-pub bytes-end : (out : List ℕ) (at i : ℕ) (bytes : List ℕ) → length bytes ≤ i → sets out (at + i) (drop i bytes) ≡ out
-bytes-end out at i bytes h = ap (λ (r : List ℕ). sets out (at + i) r) (drop_of_length-le bytes h)
+  pub more_hex : {mid : Out} {d : ℕ} (w k : ℕ) → 0 < k → Wrote before (hex_digits (k - 1) (w / 16)) mid → d ≡ hex_digit (w % 16) → Wrote mid (d ∷ []) left
+      → Wrote before (hex_digits k w) left
+  more_hex w k h p f q =
+      let e : suc (k - 1) ≡ k = omega arith in
+      subst (λ (m : ℕ). Wrote before (hex_digits m w) left) e (wrote_both p (rw f at q))

@@ -1,9 +1,8 @@
 -- What a text asks, by the walk over its bytes (specs/Inner.antt): document 01, "Marked and run". `text-read` and `read-text` (proofs/Faithful.antt) say what
 -- it is in terms of `text_of`.
-use Rattle.std.specs.Prelude.{ℕ, ◌*◌, ◌-◌, ◌/◌, ◌%◌, ◌≡◌, Bool, cond, ◌&&◌, List, leb, eqb, length, get_or, drop}
+use Rattle.std.specs.Prelude.{ℕ, ◌*◌, ◌-◌, ◌/◌, ◌%◌, ◌≡◌, Bool, cond, ◌&&◌, List, leb, eqb, length, get_or, drop, Option, None, Some}
 use Rattle.std.proofs.lemmas.List.Edits.{sets}
 use Rattle.program_text.specs.declared.Request.{Request}
-use Rattle.program_text.specs.declared.Read.{Read}
 use Rattle.program_text.specs.Inner.{numbers_ended, begin, fine}
 
 -- line 1 and whole quotes, at most 1,000
@@ -40,15 +39,15 @@ read_text b = cond (fine begin b) (read_numbers (numbers_ended begin b)) bad_inp
 
 -- ---- the answer, and what the lent recording then holds
 
-abbrev pub read_answer : Reading → Read
-read_answer (asked r ws) = Read.Request r
-read_answer bad_input = Read.Bad
+abbrev pub read_answer : Reading → Option Request
+read_answer (asked r ws) = Some r
+read_answer bad_input = None
 
 -- the words of the quotes from the front on, as far as there is room; bad input changes nothing
 abbrev pub recording_by : Reading → List ℕ → List ℕ
 recording_by (asked r ws) l = sets l 0 ws
 recording_by bad_input l = l
 
-pub record ReadBy (g : Reading) (before : List ℕ) (r : Read) (left : List ℕ) : Type 0 where
+pub record ReadBy (g : Reading) (before : List ℕ) (r : Option Request) (left : List ℕ) : Type 0 where
   pub answer : r ≡ read_answer g
   pub recording : left ≡ recording_by g before

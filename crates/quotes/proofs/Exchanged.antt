@@ -5,9 +5,11 @@ use mathlib.Core.Bool.{Bool, true, false, cond, ◌||◌, or_comm, and_comm}
 use native.Mathlib.Omega.{arith}
 use lib.Dec.{leb, ltb, eqb}
 use Rattle.basics.specs.Domain.{most}
-use Rattle.refusals.specs.Refusals.{first_of}
-use Rattle.refusals.specs.declared.Check.{Check}
-use Rattle.refusals.specs.declared.Check.TheVariants.{Fine, Refused}
+use Rattle.refusals.specs.Refusals.{first_of, Check}
+use Rattle.std.specs.Prelude.{Result, Ok, Err}
+use Rattle.quotes.specs.declared.Pair.{Pair}
+use Rattle.quotes.specs.declared.Reason.{Reason}
+use Rattle.quotes.specs.declared.Skip.{Skip}
 use Rattle.config.specs.Configuration.{valid, check_config}
 use Rattle.config.specs.Inner.{Valid}
 use Rattle.config.specs.declared.MicroPriceConfig.{MicroPriceConfig}
@@ -17,11 +19,7 @@ use Rattle.quotes.specs.States.{bucket_of, state_at, with_mirror, mirror_at, mir
 use Rattle.quotes.specs.Neighbours.{paired, mirror_neighbours, neighbours_of}
 use Rattle.quotes.specs.Inner.{Accepted}
 use Rattle.quotes.specs.declared.At.{At}
-use Rattle.quotes.specs.declared.Neighbours.{Neighbours}
-use Rattle.quotes.specs.declared.Neighbours.TheVariants.{Skipped}
 use Rattle.quotes.specs.declared.Skip.TheVariants.{Gap}
-use Rattle.quotes.specs.declared.Place.{Place}
-use Rattle.quotes.specs.declared.Place.TheVariants.{State, NoState}
 use Rattle.quotes.specs.declared.Reason.TheVariants.{SpreadOutOfRange}
 use Rattle.quotes.specs.declared.TopOfBook.{TopOfBook}
 use Rattle.quotes.proofs.Buckets.{bucket-le, bucket-exchanged}
@@ -45,9 +43,9 @@ check-exchanged c q =
     ap (λ t. eqb q.bid 0 || leb q.ask q.bid || t) (and_comm (eqb q.ask_size 0) (eqb q.bid_size 0)) in
     rw (o, b)
 
-picked : (t : Bool) (a b : At) → b ≡ mirror_at a → cond t (NoState SpreadOutOfRange) (State b) ≡ mirror_place (cond t (NoState SpreadOutOfRange) (State a))
+picked : (t : Bool) (a b : At) → b ≡ mirror_at a → cond t (Err SpreadOutOfRange) (Ok b) ≡ mirror_place (cond t (Err SpreadOutOfRange) (Ok a))
 picked true a b e = refl
-picked false a b e = ap State e
+picked false a b e = ap Ok e
 
 -- the place of an accepted quote with its sizes exchanged is the mirror's
 pub place-exchanged : (c : MicroPriceConfig) (q : TopOfBook) → Valid c → Accepted c q → place_of c (exchanged q) ≡ mirror_place (place_of c q)
@@ -68,15 +66,15 @@ state-exchanged c q = rw (check-exchanged c q) (go (valid c) refl (check_quote c
         → unless (first_of (check_config c) (check_quote c q)) (place_of c (exchanged q)) ≡ mirror_place
         (unless (first_of (check_config c) (check_quote c q)) (place_of c q))
     go false e k g = rw e
-    go true e Fine g = rw (e, g) (place-exchanged c q (valid-known c e) (fine-known c q g))
-    go true e (Refused r) g = rw (e, g)
+    go true e (Ok _) g = rw (e, g) (place-exchanged c q (valid-known c e) (fine-known c q g))
+    go true e (Err r) g = rw (e, g)
 
-pair-mirrored : (a b : Place) (x y : ℕ) → paired (mirror_place a) (mirror_place b) x y ≡ mirror_neighbours (paired a b x y)
-pair-mirrored (State i) (State j) x y = refl
-pair-mirrored (State i) (NoState r) x y = refl
-pair-mirrored (NoState r) b x y = refl
+pair-mirrored : (a b : Result At Reason) (x y : ℕ) → paired (mirror_place a) (mirror_place b) x y ≡ mirror_neighbours (paired a b x y)
+pair-mirrored (Ok i) (Ok j) x y = refl
+pair-mirrored (Ok i) (Err r) x y = refl
+pair-mirrored (Err r) b x y = refl
 
-gapped : (t : Bool) (a b : Neighbours) → b ≡ mirror_neighbours a → cond t (Skipped Gap) b ≡ mirror_neighbours (cond t (Skipped Gap) a)
+gapped : (t : Bool) (a b : Result Pair Skip) → b ≡ mirror_neighbours a → cond t (Err Gap) b ≡ mirror_neighbours (cond t (Err Gap) a)
 gapped true a b e = refl
 gapped false a b e = e
 

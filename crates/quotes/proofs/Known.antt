@@ -7,7 +7,7 @@ use lib.Dec.{leb, ltb, eqb}
 use borrow.Author.Tests.{ltb-false, leb-false, eqb-true, eqb-false, not-false}
 use Rattle.refusals.specs.Refusals.{refuse_if, first_of}
 use Rattle.refusals.proofs.Refusals.{if-fine, first_fine}
-use Rattle.refusals.specs.declared.Check.TheVariants.{Fine}
+use Rattle.std.specs.Prelude.{Ok}
 use Rattle.config.specs.declared.MicroPriceConfig.{MicroPriceConfig}
 use Rattle.quotes.specs.Quotes.{over_domain, bad_quote, on_grid, off_tick, check_quote}
 use Rattle.quotes.specs.Inner.{Accepted}
@@ -20,7 +20,7 @@ some zero zero e = absurd (zero-not-one cc)
 some zero (suc y) e = omega arith
 some (suc x) y e = omega arith
 
-pub fine-known : (c : MicroPriceConfig) (q : TopOfBook) → check_quote c q ≡ Fine → Accepted c q
+pub fine-known : (c : MicroPriceConfig) (q : TopOfBook) → check_quote c q ≡ Ok tt → Accepted c q
 fine-known c q e =
     let a = first_fine (refuse_if (over_domain q) 2) (first_of (refuse_if (bad_quote q) 3) (refuse_if (off_tick c q) 4)) e in
     let i = first_fine (refuse_if (bad_quote q) 3) (refuse_if (off_tick c q) 4) a.1 in

@@ -4,20 +4,18 @@ use mathlib.Core.Path.{◌≡◌, refl, sym, ap, ◌∙◌}
 use mathlib.Core.List.Memᴰ
 use mathlib.Core.List.{List, [], ◌∷◌, map, Memᴰ, head-eq_of_cons-eq, tail-eq_of_cons-eq}
 use mathlib.Core.Logic.{⊎_elim}
-use Rattle.refusals.specs.Refusals.{refusal}
-use Rattle.refusals.specs.declared.Check.{Check}
+use Rattle.refusals.specs.Refusals.{refusal, Check}
+use Rattle.std.specs.Prelude.{Option, Result, Ok, Err, Some}
+use Rattle.quotes.specs.declared.At.{At}
+use Rattle.quotes.specs.declared.Pair.{Pair}
+use Rattle.quotes.specs.declared.Reason.{Reason}
+use Rattle.quotes.specs.declared.Skip.{Skip}
 use Rattle.config.specs.Configuration.{new_config, with_min_state_observations, with_max_quote_gap_ms}
 use Rattle.config.specs.declared.MicroPriceConfig.{MicroPriceConfig}
 use Rattle.quotes.specs.Quotes.{check_quote}
 use Rattle.quotes.specs.States.{with_mirror, state_of, mirror_state_of}
 use Rattle.quotes.specs.Neighbours.{neighbours_of}
-use Rattle.quotes.specs.declared.MirrorState.{MirrorState}
-use Rattle.quotes.specs.declared.MirrorState.TheVariants as Mirror
-use Rattle.quotes.specs.declared.Neighbours.{Neighbours}
-use Rattle.quotes.specs.declared.Neighbours.TheVariants.{Skipped, Counted}
 use Rattle.quotes.specs.declared.Skip.TheVariants.{Gap}
-use Rattle.quotes.specs.declared.Place.{Place}
-use Rattle.quotes.specs.declared.Place.TheVariants.{State}
 use Rattle.quotes.specs.declared.TopOfBook.{TopOfBook}
 
 -- the configuration of a tick
@@ -35,9 +33,9 @@ pub data Question : Type 0 where
   offered : ℕ → TopOfBook → Question
 
 pub data Answer : Type 0 where
-  place : Place → Answer
-  mirrors : MirrorState → Answer
-  neighbours : Neighbours → Answer
+  place : Result At Reason → Answer
+  mirrors : Option ℕ → Answer
+  neighbours : Result Pair Skip → Answer
   check : Check → Answer
 
 abbrev pub answer : Question → Answer
@@ -55,7 +53,7 @@ row q a = record { asks = q; gives = a }
 
 -- at a spread of one tick the state is the bucket
 abbrev bucket : ℕ → Answer
-bucket b = place (State (with_mirror 3 b))
+bucket b = place (Ok (with_mirror 3 b))
 
 abbrev pub table : List Row
 table =
@@ -66,11 +64,11 @@ table =
     row (sizes 3 2) (bucket 1) ∷
     row (sizes 2 1) (bucket 2) ∷
     row (sizes 7 0) (bucket 2) ∷
-    row (mirror 0) (mirrors (Mirror.State 2)) ∷
-    row (mirror 4) (mirrors (Mirror.State 4)) ∷
-    row (mirror 3) (mirrors (Mirror.State 5)) ∷
-    row (gap 1000) (neighbours (Counted (record { from = with_mirror 3 1; to = with_mirror 3 1; mid_from = 201; mid_to = 201 }))) ∷
-    row (gap 1001) (neighbours (Skipped Gap)) ∷
+    row (mirror 0) (mirrors (Some 2)) ∷
+    row (mirror 4) (mirrors (Some 4)) ∷
+    row (mirror 3) (mirrors (Some 5)) ∷
+    row (gap 1000) (neighbours (Ok (record { from = with_mirror 3 1; to = with_mirror 3 1; mid_from = 201; mid_to = 201 }))) ∷
+    row (gap 1001) (neighbours (Err Gap)) ∷
     row (offered 5 (quote 0 100 107 5 5)) (check (refusal 4)) ∷
     []
 

@@ -7,8 +7,8 @@ use native.Mathlib.Nat.{mod-lt, mod-eq_of_lt, mul_comm, div-add-mod', div-eq_of_
 use lib.Dec.{ltb}
 use borrow.Author.Tests.{ltb-false}
 use Rattle.basics.proofs.Tests.{zero-not-one}
-use Rattle.refusals.specs.declared.Check.{Check}
-use Rattle.refusals.specs.declared.Check.TheVariants.{Fine, Refused}
+use Rattle.std.specs.Prelude.{Ok, Err}
+use Rattle.refusals.specs.Refusals.{Check}
 use Rattle.config.specs.Configuration.{states, valid}
 use Rattle.config.specs.Inner.{Valid}
 use Rattle.config.specs.declared.MicroPriceConfig.{MicroPriceConfig}
@@ -17,7 +17,6 @@ use Rattle.quotes.specs.Quotes.{spread_of, check_quote}
 use Rattle.quotes.specs.States.{bucket_of, state_at, spread_in, bucket_in, mirror_of, with_mirror, mirror_at, place_of, state_of}
 use Rattle.quotes.specs.Inner.{Accepted, Located}
 use Rattle.quotes.specs.declared.At.{At}
-use Rattle.quotes.specs.declared.Place.TheVariants.{State, NoState}
 use Rattle.quotes.specs.declared.Reason.TheVariants.{SpreadOutOfRange}
 use Rattle.quotes.specs.declared.TopOfBook.{TopOfBook}
 use Rattle.quotes.proofs.Buckets.{bucket-le}
@@ -65,12 +64,12 @@ module _ (n i : ℕ) (some : 1 ≤ n) where
   mirror-at = rw (mirror-involution)
 
 -- a place that is a state has its spread in range
-placed : (t : Bool) (a b : At) → cond t (NoState SpreadOutOfRange) (State a) ≡ State b → (t ≡ false) × (a ≡ b)
+placed : (t : Bool) (a b : At) → cond t (Err SpreadOutOfRange) (Ok a) ≡ Ok b → (t ≡ false) × (a ≡ b)
 placed true a b e = absurd (zero-not-one cc)
 placed false a b e = (refl, cc)
 
 -- the state of a place is below N, and so is the mirror that it carries
-pub place-located : (c : MicroPriceConfig) (q : TopOfBook) → Valid c → (a : At) → place_of c q ≡ State a → Located c a
+pub place-located : (c : MicroPriceConfig) (q : TopOfBook) → Valid c → (a : At) → place_of c q ≡ Ok a → Located c a
 place-located c q v a e =
     let n = c.imbalance_buckets in
     let p = placed (ltb c.spread_states (spread_of c q)) _ a e in
@@ -87,7 +86,7 @@ place-located c q v a e =
     }
 
 -- the spread of a place's state is the quote's
-pub place-spread : (c : MicroPriceConfig) (q : TopOfBook) → Valid c → Accepted c q → (a : At) → place_of c q ≡ State a
+pub place-spread : (c : MicroPriceConfig) (q : TopOfBook) → Valid c → Accepted c q → (a : At) → place_of c q ≡ Ok a
     → spread_in c.imbalance_buckets a.state ≡ spread_of c q
 place-spread c q v f a e =
     let n = c.imbalance_buckets in
@@ -97,14 +96,14 @@ place-spread c q v f a e =
     rw (← p.1, flat-row n (spread_of c q - 1) b l) (omega (arith, spread-least c q v f))
 
 -- a quote has a state only if nothing refuses it
-pub state-usable : (c : MicroPriceConfig) (q : TopOfBook) (a : At) → state_of c q ≡ State a → Valid c × Accepted c q × (place_of c q ≡ State a)
+pub state-usable : (c : MicroPriceConfig) (q : TopOfBook) (a : At) → state_of c q ≡ Ok a → Valid c × Accepted c q × (place_of c q ≡ Ok a)
 state-usable c q a e = go (valid c) refl (check_quote c q) refl
   where
-    go : (t : Bool) → valid c ≡ t → (k : Check) → check_quote c q ≡ k → Valid c × Accepted c q × (place_of c q ≡ State a)
+    go : (t : Bool) → valid c ≡ t → (k : Check) → check_quote c q ≡ k → Valid c × Accepted c q × (place_of c q ≡ Ok a)
     go false u k w = absurd (zero-not-one (cc (rw u at e)))
-    go true u Fine w = (valid-known c u, fine-known c q w, rw (u, w) at e)
-    go true u (Refused r) w = absurd (zero-not-one (cc (rw (u, w) at e)))
+    go true u (Ok _) w = (valid-known c u, fine-known c q w, rw (u, w) at e)
+    go true u (Err r) w = absurd (zero-not-one (cc (rw (u, w) at e)))
 
 -- a state is below N: of any quote under any configuration
-pub state-located : (c : MicroPriceConfig) (q : TopOfBook) (a : At) → state_of c q ≡ State a → Located c a
+pub state-located : (c : MicroPriceConfig) (q : TopOfBook) (a : At) → state_of c q ≡ Ok a → Located c a
 state-located c q a e = let u = state-usable c q a e in place-located c q u.0 a u.2

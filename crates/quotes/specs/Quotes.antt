@@ -1,8 +1,7 @@
 -- A quote by itself: document 01, "New, and one quote".
 use Rattle.std.specs.Prelude.{ℕ, ◌+◌, ◌-◌, ◌/◌, ◌%◌, Bool, not, ◌||◌, ◌&&◌, leb, ltb, eqb}
 use Rattle.basics.specs.Domain.{most}
-use Rattle.refusals.specs.Refusals.{refuse_if, first_of}
-use Rattle.refusals.specs.declared.Check.{Check}
+use Rattle.refusals.specs.Refusals.{refuse_if, first_of, Check}
 use Rattle.config.specs.declared.MicroPriceConfig.{MicroPriceConfig}
 use Rattle.quotes.specs.declared.TopOfBook.{TopOfBook}
 

@@ -1,16 +1,11 @@
 -- The state of a quote and its mirror: document 01, "State and mirror".
-use Rattle.std.specs.Prelude.{ℕ, zero, suc, ◌+◌, ◌-◌, ◌*◌, ◌/◌, ◌%◌, Bool, cond, ◌&&◌, leb, ltb}
-use Rattle.refusals.specs.Refusals.{first_of}
-use Rattle.refusals.specs.declared.Check.{Check}
-use Rattle.refusals.specs.declared.Check.TheVariants.{Fine, Refused}
+use Rattle.std.specs.Prelude.{ℕ, zero, suc, ◌+◌, ◌-◌, ◌*◌, ◌/◌, ◌%◌, Bool, cond, ◌&&◌, leb, ltb, Option, Result, Ok, Err, Some, None}
+use Rattle.refusals.specs.Refusals.{first_of, Check}
+use Rattle.quotes.specs.declared.Reason.{Reason}
 use Rattle.config.specs.Configuration.{states, valid, check_config}
 use Rattle.config.specs.declared.MicroPriceConfig.{MicroPriceConfig}
 use Rattle.quotes.specs.Quotes.{check_quote, spread_of}
 use Rattle.quotes.specs.declared.At.{At}
-use Rattle.quotes.specs.declared.MirrorState.{MirrorState}
-use Rattle.quotes.specs.declared.MirrorState.TheVariants as Mirror
-use Rattle.quotes.specs.declared.Place.{Place}
-use Rattle.quotes.specs.declared.Place.TheVariants.{State, NoState}
 use Rattle.quotes.specs.declared.Reason.TheVariants.{SpreadOutOfRange, Unusable}
 use Rattle.quotes.specs.declared.TopOfBook.{TopOfBook}
 
@@ -52,27 +47,27 @@ abbrev pub mirror_at : At → At
 mirror_at a = record { state = a.mirror; mirror = a.state }
 
 -- the mirror's place; where there is no state, the same reason
-abbrev pub mirror_place : Place → Place
-mirror_place (State a) = State (mirror_at a)
-mirror_place (NoState r) = NoState r
+abbrev pub mirror_place : Result At Reason → Result At Reason
+mirror_place (Ok a) = Ok (mirror_at a)
+mirror_place (Err r) = Err r
 
 -- the place of an accepted quote: its state, unless the spread is over s
-abbrev pub place_of : MicroPriceConfig → TopOfBook → Place
+abbrev pub place_of : MicroPriceConfig → TopOfBook → Result At Reason
 place_of c q =
-    cond (ltb c.spread_states (spread_of c q)) (NoState SpreadOutOfRange)
-    (State
+    cond (ltb c.spread_states (spread_of c q)) (Err SpreadOutOfRange)
+    (Ok
     (with_mirror c.imbalance_buckets
     (state_at c.imbalance_buckets (spread_of c q) (bucket_of q.bid_size q.ask_size c.imbalance_buckets))))
 
 -- a place, unless refused
-abbrev pub unless : Check → Place → Place
-unless Fine place = place
-unless (Refused r) place = NoState (Unusable r)
+abbrev pub unless : Check → Result At Reason → Result At Reason
+unless (Ok _) place = place
+unless (Err r) place = Err (Unusable r)
 
 -- the place of any quote under any configuration: refusals 1, 2, 3, 4 in this order come first
-abbrev pub state_of : MicroPriceConfig → TopOfBook → Place
+abbrev pub state_of : MicroPriceConfig → TopOfBook → Result At Reason
 state_of c q = unless (first_of (check_config c) (check_quote c q)) (place_of c q)
 
 -- the mirror of any number: none where it is no state of a valid configuration
-abbrev pub mirror_state_of : MicroPriceConfig → ℕ → MirrorState
-mirror_state_of c i = cond (valid c && ltb i (states c)) (Mirror.State (mirror_of c.imbalance_buckets i)) Mirror.NoState
+abbrev pub mirror_state_of : MicroPriceConfig → ℕ → Option ℕ
+mirror_state_of c i = cond (valid c && ltb i (states c)) (Some (mirror_of c.imbalance_buckets i)) None

@@ -7,10 +7,10 @@ ghost use Rattle.quotes.specs.Inner.{Accepted, InLevel, HasLevel};
 ghost use Rattle.quotes.specs.States.{lower_bucket, bucket_of, mirror_of, place_of};
 ghost use Rattle.quotes.specs.Neighbours.{paired, neighbours_of};
 
-use super::{At, Neighbours, Pair, Place, Reason, Skip, TopOfBook};
+use super::{At, Pair, Reason, Skip, TopOfBook};
 use basics::DOMAIN;
 use config::MicroPriceConfig;
-use refusals::{Check, Refusal};
+use refusals::Refusal;
 
 // The states of one spread: the spread in ticks and the first of them.
 #[derive(Clone, Copy)]
@@ -53,20 +53,20 @@ fn is_off_tick(config: MicroPriceConfig, q: TopOfBook) -> bool
 }
 
 // The first of refusals 2, 3 and 4.
-pub fn check_quote(config: MicroPriceConfig, q: TopOfBook) -> Check
+pub fn check_quote(config: MicroPriceConfig, q: TopOfBook) -> Result<(), Refusal>
     requires { 1 ≤ config.tick_size }
     ensures { result ≡ check_quote config q }
 {
     if is_over(q) {
-        return Check::Refused(Refusal::OverDomain);
+        return Err(Refusal::OverDomain);
     }
     if is_bad(q) {
-        return Check::Refused(Refusal::BadQuote);
+        return Err(Refusal::BadQuote);
     }
     if is_off_tick(config, q) {
-        return Check::Refused(Refusal::OffTick);
+        return Err(Refusal::OffTick);
     }
-    Check::Fine
+    Ok(())
 }
 
 // The bucket of a book with `lighter` on the bid, by one division; 1 stands in for 0, as both give bucket 0.
@@ -74,7 +74,7 @@ fn lower_bucket(lighter: u64, heavier: u64, n: u64) -> u64
     requires { (lighter ≤ heavier) × (1 ≤ heavier) × (heavier ≤ most) × (2 ≤ n) × (n ≤ 256) }
     ensures { result ≡ lower_bucket lighter heavier n }
 {
-    let scaled = basics::larger(lighter * n, 1);
+    let scaled = (lighter * n).max(1);
     (scaled - 1) / (lighter + heavier)
 }
 
@@ -82,7 +82,7 @@ fn bucket_of(bid: u64, ask: u64, n: u64) -> u64
     requires { (bid ≤ most) × (ask ≤ most) × (1 ≤ bid + ask) × (2 ≤ n) × (n ≤ 256) }
     ensures { result ≡ bucket_of bid ask n }
 {
-    let b = lower_bucket(basics::smaller(bid, ask), basics::larger(bid, ask), n);
+    let b = lower_bucket(bid.min(ask), bid.max(ask), n);
     if bid <= ask { b } else { n - 1 - b }
 }
 
@@ -101,18 +101,18 @@ pub fn half_ticks(config: MicroPriceConfig, q: TopOfBook) -> u64
 }
 
 // The place of an accepted quote. The mirror's number takes no remainder.
-pub fn place_of(config: MicroPriceConfig, q: TopOfBook) -> Place
+pub fn place_of(config: MicroPriceConfig, q: TopOfBook) -> Result<At, Reason>
     requires { Valid config × Accepted config q }
     ensures { result ≡ place_of config q }
 {
     let spread = spread_of(config, q);
     if config.spread_states < spread {
-        return Place::NoState(Reason::SpreadOutOfRange);
+        return Err(Reason::SpreadOutOfRange);
     }
     let n = config.imbalance_buckets;
     let bucket = bucket_of(q.bid_size, q.ask_size, n);
     let first = (spread - 1) * n;
-    Place::State(At {
+    Ok(At {
         state: (first + bucket) as usize,
         mirror: (first + (n - 1 - bucket)) as usize,
     })
@@ -146,6 +146,7 @@ pub fn mirror_of(n: u64, state: usize) -> usize
     ensures { result ≡ mirror_of n state }
 {
     let w = n as usize;
+    // A walk by n, and no `for`: mirroring makes no division by n, and how many rounds there are is what is looked for.
     let mut first: usize = 0;
     while first + w <= state {
         first += w;
@@ -153,19 +154,13 @@ pub fn mirror_of(n: u64, state: usize) -> usize
     mirror_in(w, first, state)
 }
 
-fn pair_of(config: MicroPriceConfig, p: TopOfBook, q: TopOfBook) -> Neighbours
+fn pair_of(config: MicroPriceConfig, p: TopOfBook, q: TopOfBook) -> Result<Pair, Skip>
     requires { Valid config × Accepted config p × Accepted config q }
     ensures { result ≡ paired (place_of config p) (place_of config q) (half_ticks config p) (half_ticks config q) }
 {
-    let a = place_of(config, p);
-    let b = place_of(config, q);
-    let Place::State(from) = a else {
-        return Neighbours::Skipped(Skip::Spread);
-    };
-    let Place::State(to) = b else {
-        return Neighbours::Skipped(Skip::Spread);
-    };
-    Neighbours::Counted(Pair {
+    let from = place_of(config, p).map_err(|_| Skip::Spread)?;
+    let to = place_of(config, q).map_err(|_| Skip::Spread)?;
+    Ok(Pair {
         from,
         to,
         mid_from: half_ticks(config, p),
@@ -174,12 +169,12 @@ fn pair_of(config: MicroPriceConfig, p: TopOfBook, q: TopOfBook) -> Neighbours
 }
 
 // What two accepted quotes are, the earlier one first.
-pub fn neighbours(config: MicroPriceConfig, p: TopOfBook, q: TopOfBook) -> Neighbours
+pub fn neighbours(config: MicroPriceConfig, p: TopOfBook, q: TopOfBook) -> Result<Pair, Skip>
     requires { Valid config × Accepted config p × Accepted config q × (p.timestamp_ms ≤ q.timestamp_ms) }
     ensures { result ≡ neighbours_of config p q }
 {
     if config.max_quote_gap_ms < q.timestamp_ms - p.timestamp_ms {
-        return Neighbours::Skipped(Skip::Gap);
+        return Err(Skip::Gap);
     }
     pair_of(config, p, q)
 }

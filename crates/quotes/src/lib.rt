@@ -2,12 +2,13 @@
 #![tactic(auto)]
 
 use config::MicroPriceConfig;
-use refusals::{Check, Refusal};
+use refusals::Refusal;
 
 pub mod inner;
 
 ghost use Rattle.std.specs.Prelude.{◌≡◌};
 ghost use Rattle.quotes.specs.States.{state_of, mirror_state_of};
+ghost use Rattle.quotes.specs.declared.Reason.TheVariants.{Unusable};
 
 // Best bid and ask with their sizes, in whole units.
 #[derive(Clone, Copy)]
@@ -34,19 +35,12 @@ pub enum Reason {
     Unusable(Refusal),
 }
 
-// Where a quote stands.
-#[derive(Clone, Copy)]
-pub enum Place {
-    State(At),
-    NoState(Reason),
-}
+impl From<Refusal> for Reason {
+    ghost from_gives = { λ refusal reason. reason ≡ Unusable refusal };
 
-// The mirror of a number of a state.
-#[derive(Clone, Copy)]
-pub enum MirrorState {
-    State(usize),
-    // The configuration has no such state.
-    NoState,
+    fn from(refusal: Refusal) -> Reason {
+        Reason::Unusable(refusal)
+    }
 }
 
 // Why two neighbouring quotes are not counted.
@@ -65,36 +59,24 @@ pub struct Pair {
     pub mid_to: u64,
 }
 
-// What two neighbouring quotes are.
-#[derive(Clone, Copy)]
-pub enum Neighbours {
-    Skipped(Skip),
-    Counted(Pair),
-}
-
 // The state of a quote with its mirror, or why it has none.
-pub fn state_of(config: MicroPriceConfig, quote: TopOfBook) -> Place
+pub fn state_of(config: MicroPriceConfig, quote: TopOfBook) -> Result<At, Reason>
     ensures { result ≡ state_of config quote }
 {
-    if !config::inner::is_valid(config) {
-        return Place::NoState(Reason::Unusable(Refusal::Configuration));
-    }
-    let checked = inner::check_quote(config, quote);
-    match checked {
-        Check::Refused(refusal) => Place::NoState(Reason::Unusable(refusal)),
-        Check::Fine => inner::place_of(config, quote),
-    }
+    config.validate()?;
+    inner::check_quote(config, quote)?;
+    inner::place_of(config, quote)
 }
 
-// The state with the imbalance bucket mirrored.
-pub fn mirror(config: MicroPriceConfig, state: usize) -> MirrorState
+// The state with the imbalance bucket mirrored; none where the configuration has no such state.
+pub fn mirror(config: MicroPriceConfig, state: usize) -> Option<usize>
     ensures { result ≡ mirror_state_of config state }
 {
     if !config::inner::is_valid(config) {
-        return MirrorState::NoState;
+        return None;
     }
     if config::inner::state_count(config) <= state {
-        return MirrorState::NoState;
+        return None;
     }
-    MirrorState::State(inner::mirror_of(config.imbalance_buckets, state))
+    Some(inner::mirror_of(config.imbalance_buckets, state))
 }

@@ -9,9 +9,8 @@ use native.Mathlib.Omega.{arith}
 use borrow.Author.Tests.{eq-eqb, le-ltb}
 use Rattle.basics.proofs.Tests.{zero-not-one}
 use Rattle.basics.specs.Lists.{bit, count}
-use Rattle.refusals.specs.Refusals.{refusal, refuse_if, first_of}
-use Rattle.refusals.specs.declared.Check.{Check}
-use Rattle.refusals.specs.declared.Check.TheVariants.{Fine, Refused}
+use Rattle.refusals.specs.Refusals.{refusal, refuse_if, first_of, Check}
+use Rattle.std.specs.Prelude.{None, Ok, Err}
 use Rattle.refusals.specs.declared.Refusal.{Refusal}
 use Rattle.refusals.specs.declared.Refusal.TheVariants.{OverDomain, BadQuote, OffTick, CountLimit}
 use Rattle.config.specs.Configuration.{states, valid}
@@ -27,10 +26,8 @@ use Rattle.tally.specs.Rules.{Memory, step, events, memory_of}
 use Rattle.tally.proofs.Balance.{after_none, after-sized, zeros-sized}
 use Rattle.tally.proofs.Overs.{zeros_within, over-touched}
 use Rattle.tally.proofs.Step.{carried-snoc, step-memory}
-use Rattle.calibrator.specs.Record.{kinds, Outcome, answered}
+use Rattle.calibrator.specs.Record.{kinds, Outcome, answered, Previous}
 use Rattle.calibrator.specs.Observe.{rule, check_memory, broken, earlier, judge, refusal_by, observed, fresh}
-use Rattle.calibrator.specs.declared.Previous.{Previous}
-use Rattle.calibrator.specs.declared.Previous.TheVariants.{Nothing}
 use Rattle.calibrator.proofs.Step.{rule-lawful}
 use Rattle.recording.specs.Recording.{sorted_from, sorted, filter}
 use Rattle.recording.specs.Observe.{is_invalid, is_stop, RecordedOutcome, recorded_as, recorded, unusable, usable}
@@ -41,9 +38,9 @@ use Rattle.recording.proofs.Runs.{goes_on, stops_at}
 
 -- 2, 3 or 4, or nothing refused
 data Judged (k : Check) : Type 0 where
-  fine : k ≡ Fine → Judged k
+  fine : k ≡ Ok tt → Judged k
   stopped : k ≡ refusal 2 → Judged k
-  invalid : (r : Refusal) → k ≡ Refused r → is_invalid (Refused r) ≡ true → is_stop (Refused r) ≡ false → Judged k
+  invalid : (r : Refusal) → k ≡ Err r → is_invalid (Err r) ≡ true → is_stop (Err r) ≡ false → Judged k
 
 judged : (c : MicroPriceConfig) (q : TopOfBook) → Judged (check_quote c q)
 judged c q = go (over_domain q) (bad_quote q) (off_tick c q)
@@ -56,24 +53,24 @@ judged c q = go (over_domain q) (bad_quote q) (off_tick c q)
 
 -- nothing refused, 2 or 6
 abbrev pub Ended : Check → Type 0
-Ended k = (k ≡ Fine) ⊎ ((k ≡ refusal 2) ⊎ (k ≡ refusal 6))
+Ended k = (k ≡ Ok tt) ⊎ ((k ≡ refusal 2) ⊎ (k ≡ refusal 6))
 
-past-fine : (a b : Check) → first_of (first_of a Fine) b ≡ first_of a b
-past-fine Fine b = refl
-past-fine (Refused r) b = refl
+past-fine : (a b : Check) → first_of (first_of a (Ok tt)) b ≡ first_of a b
+past-fine (Ok _) b = refl
+past-fine (Err r) b = refl
 
 -- the memory of a history of a new calibrator
 abbrev held : MicroPriceConfig → List TopOfBook → Memory Previous
-held c H = memory_of (rule c) Nothing (zeros kinds (states c)) H
+held c H = memory_of (rule c) None (zeros kinds (states c)) H
 
 module _ (c : MicroPriceConfig) (e : valid c ≡ true) where
   v : Valid c
   v = valid-known c e
 
   sized : (H : List TopOfBook) → Sized kinds (states c) (held c H).counts
-  sized H = after-sized kinds (states c) (rule c).mirror (zeros kinds (states c)) (events (rule c) Nothing H)
+  sized H = after-sized kinds (states c) (rule c).mirror (zeros kinds (states c)) (events (rule c) None H)
 
-  enough : (H : List TopOfBook) → check_memory c (held c H) ≡ Fine
+  enough : (H : List TopOfBook) → check_memory c (held c H) ≡ Ok tt
   enough H =
       let s = sized H in
       rw (e, eq-eqb _ _ s.stay-cells, eq-eqb _ _ s.moved-cells, eq-eqb _ _ s.totals-cells)
@@ -89,7 +86,7 @@ module _ (c : MicroPriceConfig) (e : valid c ≡ true) where
   passes H q = over_limit (held c (H ++ q ∷ [])).counts
 
   one_more : (H : List TopOfBook) (q : TopOfBook) → step (rule c) (held c H) q ≡ held c (H ++ q ∷ [])
-  one_more H q = step-memory (rule c) (rule-lawful c v) Nothing (zeros kinds (states c)) H q
+  one_more H q = step-memory (rule c) (rule-lawful c v) None (zeros kinds (states c)) H q
 
   module _ (t : ℕ) (H : List TopOfBook) (h : Ready t H) (q : TopOfBook) where
     -- 6 is of the history with the quote
@@ -103,9 +100,9 @@ module _ (c : MicroPriceConfig) (e : valid c ≡ true) where
     refusal_is : t ≤ q.timestamp_ms → refusal_by (rule c) (judge c) (held c H) q ≡ first_of (check_quote c q) (refuse_if (passes H q) 6)
     refusal_is l = rw (enough H, h.sound, h.late q l, six) (past-fine (check_quote c q) _)
 
-    next-ready : check_quote c q ≡ Fine → passes H q ≡ false → Ready q.timestamp_ms (H ++ q ∷ [])
+    next-ready : check_quote c q ≡ Ok tt → passes H q ≡ false → Ready q.timestamp_ms (H ++ q ∷ [])
     next-ready f w =
-        let last = carried-snoc (rule c) Nothing H q in
+        let last = carried-snoc (rule c) None H q in
         record {
           sound = rw (last, f);
           late = λ p l. rw last (le-ltb p.timestamp_ms q.timestamp_ms l);
@@ -120,13 +117,13 @@ module _ (c : MicroPriceConfig) (e : valid c ≡ true) where
   -- what counting quotes after a history comes to, with k invalid ones before
   record Counted (H qs : List TopOfBook) (k : ℕ) (r : RecordedOutcome Previous) : Type 0 where
     answer-is : Ended r.answer
-    left_is : r.answer ≡ Fine → r.left ≡ held c (H ++ filter (usable c) qs)
-    invalid-is : r.answer ≡ Fine → r.invalid ≡ k + count (unusable c) qs
+    left_is : r.answer ≡ Ok tt → r.left ≡ held c (H ++ filter (usable c) qs)
+    invalid-is : r.answer ≡ Ok tt → r.invalid ≡ k + count (unusable c) qs
     within : over_limit r.left.counts ≡ false
 
   -- a stop leaves the memory of the history
-  stopped-counted : (t : ℕ) (H qs : List TopOfBook) (k : ℕ) (x : Refusal) → Ready t H → (Refused x ≡ refusal 2) ⊎ (Refused x ≡ refusal 6)
-      → Counted H qs k (recorded_as (Refused x) k (held c H))
+  stopped-counted : (t : ℕ) (H qs : List TopOfBook) (k : ℕ) (x : Refusal) → Ready t H → (Err x ≡ refusal 2) ⊎ (Err x ≡ refusal 6)
+      → Counted H qs k (recorded_as (Err x) k (held c H))
   stopped-counted t H qs k x h d =
       record {
         answer-is = inr d;
@@ -136,7 +133,7 @@ module _ (c : MicroPriceConfig) (e : valid c ≡ true) where
       }
 
   module _ (H qs : List TopOfBook) (q : TopOfBook) (k : ℕ) (r : RecordedOutcome Previous) where
-    fine_more : check_quote c q ≡ Fine → Counted (H ++ q ∷ []) qs (k + 0) r → Counted H (q ∷ qs) k r
+    fine_more : check_quote c q ≡ Ok tt → Counted (H ++ q ∷ []) qs (k + 0) r → Counted H (q ∷ qs) k r
     fine_more f d =
         record {
           answer-is = d.answer-is;
@@ -167,28 +164,28 @@ module _ (c : MicroPriceConfig) (e : valid c ≡ true) where
     is-observed : (a : Check) → first_of (check_quote c q) (refuse_if (passes H q) 6) ≡ a → outcome a ≡ observed c (held c H) q
     is-observed a d = sym (ap outcome (refusal_is t H h q l ∙ d))
 
-    counted_stop : (x : Refusal) → is_stop (Refused x) ≡ true → first_of (check_quote c q) (refuse_if (passes H q) 6) ≡ Refused x
-        → (Refused x ≡ refusal 2) ⊎ (Refused x ≡ refusal 6) → Counted H (q ∷ qs) k (recorded c (q ∷ qs) k (held c H))
+    counted_stop : (x : Refusal) → is_stop (Err x) ≡ true → first_of (check_quote c q) (refuse_if (passes H q) 6) ≡ Err x
+        → (Err x ≡ refusal 2) ⊎ (Err x ≡ refusal 6) → Counted H (q ∷ qs) k (recorded c (q ∷ qs) k (held c H))
     counted_stop x s d u =
         subst (Counted H (q ∷ qs) k)
-        (sym (stops_at (observed c) q qs k (held c H) (outcome (Refused x)) (is-observed (Refused x) d) s))
+        (sym (stops_at (observed c) q qs k (held c H) (outcome (Err x)) (is-observed (Err x) d) s))
         (stopped-counted t H (q ∷ qs) k x h u)
 
-    counted-fine : check_quote c q ≡ Fine → passes H q ≡ false → Counted (H ++ q ∷ []) qs (k + 0) (recorded c qs (k + 0) (held c (H ++ q ∷ [])))
+    counted-fine : check_quote c q ≡ Ok tt → passes H q ≡ false → Counted (H ++ q ∷ []) qs (k + 0) (recorded c qs (k + 0) (held c (H ++ q ∷ [])))
         → Counted H (q ∷ qs) k (recorded c (q ∷ qs) k (held c H))
     counted-fine f w d =
         fine_more H qs q k _ f
         (subst (Counted (H ++ q ∷ []) qs (k + 0))
         (ap (recorded c qs (k + 0)) (sym (one_more H q))
-        ∙ sym (goes_on (observed c) q qs k (held c H) (outcome Fine) (is-observed Fine (rw (f, w))) refl))
+        ∙ sym (goes_on (observed c) q qs k (held c H) (outcome (Ok tt)) (is-observed (Ok tt) (rw (f, w))) refl))
         d)
 
-    counted-invalid : (x : Refusal) → check_quote c q ≡ Refused x → is_invalid (Refused x) ≡ true → is_stop (Refused x) ≡ false
+    counted-invalid : (x : Refusal) → check_quote c q ≡ Err x → is_invalid (Err x) ≡ true → is_stop (Err x) ≡ false
         → Counted H qs (k + 1) (recorded c qs (k + 1) (held c H)) → Counted H (q ∷ qs) k (recorded c (q ∷ qs) k (held c H))
     counted-invalid x f i s d =
         invalid-more H qs q k _ (ap is_invalid f ∙ i)
         (subst (Counted H qs (k + 1))
-        (sym (goes_on (observed c) q qs k (held c H) (outcome (Refused x)) (is-observed (Refused x) (rw f)) s
+        (sym (goes_on (observed c) q qs k (held c H) (outcome (Err x)) (is-observed (Err x) (rw f)) s
         ∙ ap (λ (b : Bool). recorded c qs (k + bit b) (held c H)) i))
         d)
 
@@ -206,7 +203,7 @@ module _ (c : MicroPriceConfig) (e : valid c ≡ true) where
       (counted qs q.timestamp_ms H (k + 1) (later t H h q n.0) n.1) (judged c q)
     where
       go : t ≤ q.timestamp_ms
-          → (passes H q ≡ false → check_quote c q ≡ Fine → Counted (H ++ q ∷ []) qs (k + 0) (recorded c qs (k + 0) (held c (H ++ q ∷ []))))
+          → (passes H q ≡ false → check_quote c q ≡ Ok tt → Counted (H ++ q ∷ []) qs (k + 0) (recorded c qs (k + 0) (held c (H ++ q ∷ []))))
           → Counted H qs (k + 1) (recorded c qs (k + 1) (held c H)) → Judged (check_quote c q) → Counted H (q ∷ qs) k (recorded c (q ∷ qs) k (held c H))
       go l f i (stopped j) = counted_stop t H qs q k h l OverDomain refl (rw j) (inl refl)
       go l f i (invalid x j a b) = counted-invalid t H qs q k h l x j a b i
@@ -222,7 +219,7 @@ module _ (c : MicroPriceConfig) (e : valid c ≡ true) where
   empty-is =
       λ i.
       record {
-        last = Nothing;
+        last = None;
         counts = after_none kinds (states c) (rule c).mirror (zeros kinds (states c)) (zeros-sized kinds (states c)) i;
       }
 
@@ -243,11 +240,11 @@ module _ (c : MicroPriceConfig) (e : valid c ≡ true) where
     new-answers = all.answer-is
 
     -- if nothing does, its memory is that of the history of the quotes that 3 and 4 do not refuse, and the others are the invalid ones
-    pub new-left : (recorded c qs 0 (fresh c)).answer ≡ Fine
-        → (recorded c qs 0 (fresh c)).left ≡ memory_of (rule c) Nothing (zeros kinds (states c)) (filter (usable c) qs)
+    pub new-left : (recorded c qs 0 (fresh c)).answer ≡ Ok tt
+        → (recorded c qs 0 (fresh c)).left ≡ memory_of (rule c) None (zeros kinds (states c)) (filter (usable c) qs)
     new-left u = all.left_is u
 
-    pub new-invalid : (recorded c qs 0 (fresh c)).answer ≡ Fine → (recorded c qs 0 (fresh c)).invalid ≡ count (unusable c) qs
+    pub new-invalid : (recorded c qs 0 (fresh c)).answer ≡ Ok tt → (recorded c qs 0 (fresh c)).invalid ≡ count (unusable c) qs
     new-invalid u = all.invalid-is u ∙ zero-add (count (unusable c) qs)
 
     -- its counts are within their limits

@@ -1,5 +1,6 @@
 pub mod Recordings
 pub mod Windows
+pub mod Chunks
 pub mod Parts
 pub mod Runs
 pub mod Histories

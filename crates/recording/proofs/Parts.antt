@@ -12,16 +12,15 @@ use lib.ListN.{length, take, drop}
 use borrow.Author.Tests.{eq-eqb, ne_eqb, le-leb, lt-leb, lt-ltb, le-ltb, not-false}
 use Rattle.basics.specs.Lists.{count, any}
 use Rattle.basics.proofs.Tests.{le-or-lt}
-use Rattle.refusals.specs.Refusals.{refuse_if, first_of}
+use Rattle.refusals.specs.Refusals.{refuse_if, first_of, Check}
 use Rattle.refusals.proofs.Refusals.{if-fine, first_fine}
-use Rattle.refusals.specs.declared.Check.{Check}
+use Rattle.std.specs.Prelude.{Result, Ok, Err}
 use Rattle.refusals.specs.declared.Refusal.{Refusal}
 use Rattle.quotes.specs.declared.TopOfBook.{TopOfBook}
 use Rattle.calibrator.specs.Observe.{refuses}
 use Rattle.recording.specs.Recording.{quotes_of, uneven, sorted_from, sorted, filter}
 use Rattle.recording.specs.Window.{inside, before, backward, check_window, ends_of, window_unless, window_of, part_ends, part_of}
 use Rattle.recording.specs.declared.Ends.{Ends}
-use Rattle.recording.specs.declared.Window.{Window}
 use Rattle.recording.proofs.Recordings.{sorted-known, sorted_filter, part_length, part-even, part-quotes}
 use Rattle.recording.proofs.Windows.{none_before, any-count, ends-lie}
 
@@ -73,7 +72,7 @@ module _ (w : List ℕ) (start end : ℕ) where
   handed = part_of (part_ends (window_of w start end)).first (part_ends (window_of w start end)).past w
 
   -- as code has its part
-  pub handed-known : (found : Window) (e : Ends) (part : List ℕ) → found ≡ window_of w start end → e ≡ part_ends found → part ≡ part_of e.first e.past w
+  pub handed-known : (found : Result Ends Refusal) (e : Ends) (part : List ℕ) → found ≡ window_of w start end → e ≡ part_ends found → part ≡ part_of e.first e.past w
       → part ≡ handed
   handed-known found e part f h p = p ∙ ap (λ (x : Ends). part_of x.first x.past w) (h ∙ ap part_ends f)
 
@@ -83,23 +82,23 @@ module _ (w : List ℕ) (start end : ℕ) where
       part-even w (part_ends (window_of w start end)).first (part_ends (window_of w start end)).past (ends-lie w start end).0 (ends-lie w start end).1
 
   -- where nothing is refused, the ends are those of the quotes inside, and the times are in order
-  ends-are : check_window w start end ≡ Check.Fine → part_ends (window_of w start end) ≡ ends_of start end (quotes_of w)
+  ends-are : check_window w start end ≡ Ok tt → part_ends (window_of w start end) ≡ ends_of start end (quotes_of w)
   ends-are f = ap (λ (k : Check). part_ends (window_unless k (ends_of start end (quotes_of w)))) f
 
-  fine-sorted : check_window w start end ≡ Check.Fine → sorted (quotes_of w) ≡ true
+  fine-sorted : check_window w start end ≡ Ok tt → sorted (quotes_of w) ≡ true
   fine-sorted f =
       let a = first_fine (refuse_if (uneven w) 7) (first_of (refuse_if (not (sorted (quotes_of w))) 14) (refuse_if (backward start end (quotes_of w)) 15)) f in
       let b = first_fine (refuse_if (not (sorted (quotes_of w))) 14) (refuse_if (backward start end (quotes_of w)) 15) a.1 in
       not-false (sorted (quotes_of w)) (if-fine (not (sorted (quotes_of w))) 14 refl b.0)
 
-  pub handed-quotes : check_window w start end ≡ Check.Fine → quotes_of handed ≡ filter (inside start end) (quotes_of w)
+  pub handed-quotes : check_window w start end ≡ Ok tt → quotes_of handed ≡ filter (inside start end) (quotes_of w)
   handed-quotes f =
       part-quotes w (part_ends (window_of w start end)).first (part_ends (window_of w start end)).past (ends-lie w start end).0 (ends-lie w start end).1
       ∙ ap (λ (x : Ends). take (x.past - x.first) (drop x.first (quotes_of w))) (ends-are f)
       ∙ window-inside start end (quotes_of w) (fine-sorted f)
 
   -- a refusal hands out nothing
-  pub handed-none : (r : Refusal) → check_window w start end ≡ Check.Refused r → handed ≡ []
+  pub handed-none : (r : Refusal) → check_window w start end ≡ Err r → handed ≡ []
   handed-none r f =
       ap (λ (k : Check). let x = part_ends (window_unless k (ends_of start end (quotes_of w))) in part_of x.first x.past w) f
 
@@ -107,11 +106,11 @@ module _ (w : List ℕ) (start end : ℕ) where
   handed-sorted = go (check_window w start end) refl
     where
       go : (k : Check) → check_window w start end ≡ k → sorted (quotes_of handed) ≡ true
-      go Check.Fine f =
+      go (Ok _) f =
           ap sorted (handed-quotes f) ∙ sorted_filter (inside start end) 0 (quotes_of w) (fine-sorted f)
-      go (Check.Refused r) f = ap (λ (l : List ℕ). sorted (quotes_of l)) (handed-none r f)
+      go (Err r) f = ap (λ (l : List ℕ). sorted (quotes_of l)) (handed-none r f)
 
-  handed-length : check_window w start end ≡ Check.Fine → length handed ≡ 5 * count (inside start end) (quotes_of w)
+  handed-length : check_window w start end ≡ Ok tt → length handed ≡ 5 * count (inside start end) (quotes_of w)
   handed-length f =
       part_length w (part_ends (window_of w start end)).first (part_ends (window_of w start end)).past (ends-lie w start end).0 (ends-lie w start end).1
       ∙ ap (λ (x : Ends). 5 * (x.past - x.first)) (ends-are f)
@@ -123,7 +122,7 @@ module _ (w : List ℕ) (start end : ℕ) where
   handed-empty = go (check_window w start end) refl
     where
       go : (k : Check) → check_window w start end ≡ k → eqb (length handed) 0 ≡ (refuses k || not (any (inside start end) (quotes_of w)))
-      go (Check.Refused r) f = ap (λ (l : List ℕ). eqb (length l) 0) (handed-none r f)
-      go Check.Fine f =
+      go (Err r) f = ap (λ (l : List ℕ). eqb (length l) 0) (handed-none r f)
+      go (Ok _) f =
           ap (λ (n : ℕ). eqb n 0) (handed-length f) ∙ none-counted (count (inside start end) (quotes_of w))
           ∙ sym (ap not (any-count (inside start end) (quotes_of w)))

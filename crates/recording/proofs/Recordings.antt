@@ -9,8 +9,8 @@ use native.Mathlib.Omega.{arith}
 use lib.Dec.{leb}
 use lib.ListN.{length, get_or, take, drop, length-drop, drop_of_length-le}
 use lib.Seq.{drop-cons, get_or-take, get_or-drop, length-take-le, ext_get_or}
-use borrow.Author.Tests.{le-leb, lt-leb, leb-true, eq-eqb}
-use Rattle.basics.proofs.Lists.{length-tab, get_d-tab}
+use borrow.Author.Tests.{le-leb, leb-true, eq-eqb}
+use Rattle.basics.proofs.Lists.{length-tab, get_or-tab}
 use Rattle.basics.proofs.Tests.{both}
 use Rattle.quotes.specs.declared.TopOfBook.{TopOfBook}
 use Rattle.recording.specs.Recording.{time_at, quote_at, quotes_of, uneven, sorted_from, filter}
@@ -21,7 +21,7 @@ module _ (w : List ℕ) where
   quotes-length = length-tab (length w / 5) (quote_at w)
 
   pub quotes-at : (i : ℕ) (d : TopOfBook) → i < length w / 5 → get_or (quotes_of w) i d ≡ quote_at w i
-  quotes-at i d h = get_d-tab (length w / 5) (quote_at w) i d h
+  quotes-at i d h = get_or-tab (length w / 5) (quote_at w) i d h
 
   -- from quote i on
   pub quotes-step : (i : ℕ) → i < length w / 5 → drop i (quotes_of w) ≡ quote_at w i ∷ drop (i + 1) (quotes_of w)
@@ -32,16 +32,7 @@ module _ (w : List ℕ) where
   pub quotes-end : (i : ℕ) → length w / 5 ≤ i → drop i (quotes_of w) ≡ []
   quotes-end i h = drop_of_length-le (quotes_of w) {i = i} (rw quotes-length h)
 
-  -- ---- in order
-
-  pub sorted-step : (t i : ℕ) → i < length w / 5 → t ≤ time_at w i → sorted_from t (drop i (quotes_of w)) ≡ sorted_from (time_at w i) (drop (i + 1) (quotes_of w))
-  sorted-step t i h l = rw (quotes-step i h, le-leb t (time_at w i) l)
-
-  pub sorted-stop : (t i : ℕ) → i < length w / 5 → time_at w i < t → sorted_from t (drop i (quotes_of w)) ≡ false
-  sorted-stop t i h l = rw (quotes-step i h, lt-leb t (time_at w i) l)
-
-  pub sorted-end : (t i : ℕ) → length w / 5 ≤ i → sorted_from t (drop i (quotes_of w)) ≡ true
-  sorted-end t i h = rw (quotes-end i h)
+-- ---- in order
 
 -- what is known of times in order
 pub sorted-known : (t : ℕ) (q : TopOfBook) (qs : List TopOfBook) → sorted_from t (q ∷ qs) ≡ true

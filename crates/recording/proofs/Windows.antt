@@ -1,25 +1,25 @@
 -- The window's ends by how many quotes are before its two times, and its answers.
 use Prim.Native.Nat.{ℕ, zero, suc, ◌+◌, ◌/◌, ◌%◌, ◌≤◌, ◌<◌}
 use mathlib.Core.Path.{◌≡◌, refl, sym, ap, ◌∙◌}
-use mathlib.Core.Bool.{Bool, true, false, not, ◌||◌}
+use mathlib.Core.Bool.{Bool, true, false, ◌||◌}
 use mathlib.Core.List.{List, [], ◌∷◌}
 use mathlib.Core.Logic.{◌⊎◌, inl, inr}
 use native.Mathlib.Nat.{not-suc-le-zero, le_of_suc-le-suc}
 use native.Mathlib.Omega.{arith}
 use lib.Dec.{ltb}
 use lib.ListN.{length, get_or}
-use borrow.Author.Tests.{eq-eqb, ne_eqb, le-leb, lt-leb, lt-ltb, le-ltb, ltb-true}
+use borrow.Author.Tests.{eq-eqb, le-leb, lt-leb, lt-ltb, le-ltb, ltb-true}
 use Rattle.basics.specs.Lists.{bit, count, any}
 use Rattle.basics.proofs.Tests.{le-or-lt, same_test}
-use Rattle.refusals.specs.Refusals.{refuse_if, first_of}
-use Rattle.refusals.specs.declared.Check.{Check}
-use Rattle.refusals.specs.declared.Refusal.TheVariants.{SliceLength, RecordingUnsorted, WindowBackward}
+use Rattle.refusals.specs.Refusals.{Check}
+use Rattle.std.specs.Prelude.{Result, Ok, Err}
+use Rattle.std.specs.Result.{ResultUnwrapsOrElse}
+use Rattle.refusals.specs.declared.Refusal.{Refusal}
+use Rattle.refusals.specs.declared.Refusal.TheVariants.{WindowBackward}
 use Rattle.quotes.specs.declared.TopOfBook.{TopOfBook}
 use Rattle.recording.specs.Recording.{time_at, quote_at, quotes_of, sorted_from, sorted}
 use Rattle.recording.specs.Window.{inside, before, backward, check_window, ends_of, window_unless, window_of, part_ends}
 use Rattle.recording.specs.declared.Ends.{Ends}
-use Rattle.recording.specs.declared.Window.{Window}
-use Rattle.recording.specs.declared.Window.TheVariants.{Part, Refused}
 use Rattle.recording.proofs.Recordings.{sorted-known, sorted-at, quotes-length, quotes-at}
 
 pub bit-most : (b : Bool) → bit b ≤ 1
@@ -145,28 +145,25 @@ module _ (start end : ℕ) (qs : List TopOfBook) where
 -- ---- the window's answers
 
 module _ (w : List ℕ) (start end : ℕ) where
-  pub way-uneven : (length w % 5 ≡ 0 → ⊥) → Refused SliceLength ≡ window_of w start end
-  way-uneven h = rw (ne_eqb (length w % 5) 0 h)
-
   module _ (even : length w % 5 ≡ 0) where
-    pub way-unsorted : sorted (quotes_of w) ≡ false → Refused RecordingUnsorted ≡ window_of w start end
-    way-unsorted e =
-        rw (eq-eqb (length w % 5) 0 even)
-        (sym (ap (λ (s : Bool). window_unless (first_of (refuse_if (not s) 14) (refuse_if (backward start end (quotes_of w)) 15)) (ends_of start end (quotes_of w)))
-        e))
-
     module _ (f p : ℕ) (e : sorted (quotes_of w) ≡ true) (ef : f ≡ count (before start) (quotes_of w)) (ep : p ≡ count (before end) (quotes_of w)) where
       back : ltb p f ≡ backward start end (quotes_of w)
       back = rw (ef, ep) (sym (backward-is start end (quotes_of w)))
 
-      pub way-backward : p < f → Refused WindowBackward ≡ window_of w start end
+      pub way-backward : p < f → Err WindowBackward ≡ window_of w start end
       way-backward h = rw (eq-eqb (length w % 5) 0 even, e, ← back, lt-ltb p f h)
 
-      pub way-part : f ≤ p → Part (record { first = f; past = p }) ≡ window_of w start end
+      pub way-part : f ≤ p → Ok (record { first = f; past = p }) ≡ window_of w start end
       way-part h =
           rw (eq-eqb (length w % 5) 0 even, e, ← back, le-ltb p f h)
-          (λ t. Part (record { first = ef t; past = (ep ∙ sym (past_is start end (quotes_of w) (rw (← ef, ← ep) h))) t }))
+          (λ t. Ok (record { first = ef t; past = (ep ∙ sym (past_is start end (quotes_of w) (rw (← ef, ← ep) h))) t }))
 
+-- the ends that are found, or by default none
+pub ends-or : (found : Result Ends Refusal) (e : Ends) → ResultUnwrapsOrElse found (λ x. (x.first ≡ 0) × (x.past ≡ 0)) e → e ≡ part_ends found
+ends-or (Ok f) e is = is
+ends-or (Err r) e is = λ i. record { first = is.0 i; past = is.1 i }
+
+module _ (w : List ℕ) (start end : ℕ) where
   -- the part lies in the recording
   pub ends-lie : ((part_ends (window_of w start end)).first ≤ (part_ends (window_of w start end)).past) × ((part_ends (window_of w start end)).past ≤ length w / 5)
   ends-lie = go (check_window w start end)
@@ -174,9 +171,9 @@ module _ (w : List ℕ) (start end : ℕ) where
       go : (k : Check)
           → ((part_ends (window_unless k (ends_of start end (quotes_of w)))).first ≤ (part_ends (window_unless k (ends_of start end (quotes_of w)))).past)
           × ((part_ends (window_unless k (ends_of start end (quotes_of w)))).past ≤ length w / 5)
-      go Check.Fine = (omega arith, omega (arith, ends-most start end (quotes_of w), quotes-length w))
-      go (Check.Refused r) = (omega arith, omega arith)
+      go (Ok _) = (omega arith, omega (arith, ends-most start end (quotes_of w), quotes-length w))
+      go (Err r) = (omega arith, omega arith)
 
   -- as code has its ends
-  pub ends-known : (found : Window) (e : Ends) → found ≡ window_of w start end → e ≡ part_ends found → (e.first ≤ e.past) × (e.past ≤ length w / 5)
+  pub ends-known : (found : Result Ends Refusal) (e : Ends) → found ≡ window_of w start end → e ≡ part_ends found → (e.first ≤ e.past) × (e.past ≤ length w / 5)
   ends-known found e f h = rw (h, f) ends-lie

@@ -3,7 +3,7 @@ use Rattle.std.specs.Prelude.{ℕ, cond, List}
 use Rattle.refusals.specs.Refusals.{refusal}
 use Rattle.config.specs.declared.MicroPriceConfig.{MicroPriceConfig}
 use Rattle.tally.specs.Rules.{Memory}
-use Rattle.calibrator.specs.declared.Previous.{Previous}
+use Rattle.calibrator.specs.Record.{Previous}
 use Rattle.recording.specs.Recording.{quotes_of, uneven}
 use Rattle.recording.specs.Observe.{RecordedOutcome, recorded_as, recorded}
 

@@ -1,21 +1,18 @@
 -- A recording counted into a calibrator: document 01, "An evening's calibration".
-use Rattle.std.specs.Prelude.{ℕ, ◌+◌, Bool, false, not, cond, ◌&&◌, ◌||◌, List, [], ◌∷◌, eqb}
+use Rattle.std.specs.Prelude.{ℕ, ◌+◌, Bool, false, not, cond, ◌&&◌, ◌||◌, List, [], ◌∷◌, eqb, Ok, Err}
 use Rattle.basics.specs.Lists.{bit}
-use Rattle.refusals.specs.Refusals.{number_of}
-use Rattle.refusals.specs.declared.Check.{Check}
-use Rattle.refusals.specs.declared.Check.TheVariants.{Fine, Refused}
+use Rattle.refusals.specs.Refusals.{number_of, Check}
 use Rattle.config.specs.declared.MicroPriceConfig.{MicroPriceConfig}
 use Rattle.quotes.specs.Quotes.{check_quote}
 use Rattle.quotes.specs.declared.TopOfBook.{TopOfBook}
 use Rattle.tally.specs.Rules.{Memory}
-use Rattle.calibrator.specs.Record.{Outcome}
+use Rattle.calibrator.specs.Record.{Outcome, Previous}
 use Rattle.calibrator.specs.Observe.{refuses, observed}
-use Rattle.calibrator.specs.declared.Previous.{Previous}
 
 -- 3 and 4, counted as invalid quotes
 abbrev pub is_invalid : Check → Bool
-is_invalid Fine = false
-is_invalid (Refused r) = eqb (number_of r) 3 || eqb (number_of r) 4
+is_invalid (Ok _) = false
+is_invalid (Err r) = eqb (number_of r) 3 || eqb (number_of r) 4
 
 -- any other refusal
 abbrev pub is_stop : Check → Bool
@@ -32,7 +29,7 @@ recorded_as a k m = record { answer = a; invalid = k; left = m }
 
 -- each quote is given to an operation, in order, with k invalid ones before; one that stops it is the answer
 abbrev pub recorded_by : {Last Quote : Type 0} → (Memory Last → Quote → Outcome Last) → List Quote → ℕ → Memory Last → RecordedOutcome Last
-recorded_by f [] k m = recorded_as Fine k m
+recorded_by f [] k m = recorded_as (Ok tt) k m
 recorded_by f (q ∷ qs) k m =
     cond (is_stop (f m q).answer) (recorded_as (f m q).answer k (f m q).left)
     (recorded_by f qs (k + bit (is_invalid (f m q).answer)) (f m q).left)

@@ -1,14 +1,12 @@
 -- The window: document 01, "The window".
-use Rattle.std.specs.Prelude.{ℕ, ◌+◌, ◌*◌, ◌-◌, ◌≡◌, Bool, not, ◌&&◌, List, leb, ltb, take, drop}
+use Rattle.std.specs.Prelude.{ℕ, ◌+◌, ◌*◌, ◌-◌, ◌≡◌, Bool, not, ◌&&◌, List, leb, ltb, take, drop, Result, Ok, Err}
 use Rattle.std.specs.Borrow.{Bor}
 use Rattle.basics.specs.Lists.{count, any}
-use Rattle.refusals.specs.Refusals.{refuse_if, first_of}
-use Rattle.refusals.specs.declared.Check.{Check}
+use Rattle.refusals.specs.Refusals.{refuse_if, first_of, Check}
+use Rattle.refusals.specs.declared.Refusal.{Refusal}
 use Rattle.quotes.specs.declared.TopOfBook.{TopOfBook}
 use Rattle.recording.specs.Recording.{quotes_of, uneven, sorted}
 use Rattle.recording.specs.declared.Ends.{Ends}
-use Rattle.recording.specs.declared.Window.{Window}
-use Rattle.recording.specs.declared.Window.TheVariants.{Part, Refused}
 
 -- inside if start ≤ time < end
 abbrev pub inside : ℕ → ℕ → TopOfBook → Bool
@@ -35,19 +33,19 @@ ends_of start end qs =
       past = count (before start) qs + count (inside start end) qs;
     }
 
-abbrev pub window_unless : Check → Ends → Window
-window_unless Check.Fine e = Part e
-window_unless (Check.Refused r) e = Refused r
+abbrev pub window_unless : Check → Ends → Result Ends Refusal
+window_unless (Ok _) e = Ok e
+window_unless (Err r) e = Err r
 
-abbrev pub window_of : List ℕ → ℕ → ℕ → Window
+abbrev pub window_of : List ℕ → ℕ → ℕ → Result Ends Refusal
 window_of w start end = window_unless (check_window w start end) (ends_of start end (quotes_of w))
 
 -- ---- the part itself
 
 -- the ends of the part that is handed out: none for a refusal
-abbrev pub part_ends : Window → Ends
-part_ends (Part e) = e
-part_ends (Refused r) = record { first = 0; past = 0 }
+abbrev pub part_ends : Result Ends Refusal → Ends
+part_ends (Ok e) = e
+part_ends (Err r) = record { first = 0; past = 0 }
 
 -- the words of the quotes from a up to, not including, e
 abbrev pub part_of : ℕ → ℕ → List ℕ → List ℕ

@@ -2,8 +2,7 @@
 // slice of five words a quote: time, bid, ask, bid size, ask size.
 #![tactic(auto)]
 
-use calibrator::Record;
-use refusals::{Check, Refusal};
+use refusals::Refusal;
 
 pub mod inner;
 
@@ -11,49 +10,41 @@ ghost use Rattle.std.specs.Prelude.{◌≡◌};
 ghost use Rattle.recording.specs.Window.{window_of, part_ends, PartIn};
 
 // A part of a recording: its first quote, and the one past its last.
-#[derive(Clone, Copy)]
+#[derive(Clone, Copy, Default)]
 pub struct Ends {
     pub first: usize,
     pub past: usize,
 }
 
-// What a window finds.
-#[derive(Clone, Copy)]
-pub enum Window {
-    Part(Ends),
-    Refused(Refusal),
-}
-
-// What counting a recording comes to: the answer, the number of invalid quotes, and the record as it is left.
+// What counting a recording comes to: the answer, and the number of invalid quotes, which both answers have: no `Result` of the number.
 #[derive(Clone, Copy)]
 pub struct Recorded {
-    pub answer: Check,
+    pub answer: Result<(), Refusal>,
     pub invalid: u64,
-    pub next: Record,
 }
 
 // The part of a recording with start ≤ time < end.
-pub fn window_of(recording: &[u64], start: u64, end: u64) -> Window
+pub fn window_of(recording: &[u64], start: u64, end: u64) -> Result<Ends, Refusal>
     ensures { result ≡ window_of recording.now start end }
 {
     if recording.len() % 5 != 0 {
-        return Window::Refused(Refusal::SliceLength);
+        return Err(Refusal::SliceLength);
     }
     if !inner::is_sorted(recording) {
-        return Window::Refused(Refusal::RecordingUnsorted);
+        return Err(Refusal::RecordingUnsorted);
     }
     let first = inner::quotes_before(recording, start);
     let past = inner::quotes_before(recording, end);
     if past < first {
-        return Window::Refused(Refusal::WindowBackward);
+        return Err(Refusal::WindowBackward);
     }
-    Window::Part(Ends { first, past })
+    Ok(Ends { first, past })
 }
 
 // That part itself, empty exactly if `window_of` refuses or no quote is inside.
 pub fn quotes_in(recording: &[u64], start: u64, end: u64) -> &[u64]
     ensures { PartIn (part_ends (window_of recording.now start end)) recording.entry result }
 {
-    let ends = inner::part_ends(window_of(recording, start, end));
+    let ends = window_of(recording, start, end).unwrap_or_default();
     inner::part_of(recording, ends)
 }

@@ -1,7 +1,5 @@
 -- Document 01's refusals by number, and the first of several in its order.
-use Rattle.std.specs.Prelude.{ℕ, zero, suc, Bool, true, false, cond, List, [], ◌∷◌, eqb}
-use Rattle.refusals.specs.declared.Check.{Check}
-use Rattle.refusals.specs.declared.Check.TheVariants.{Fine, Refused}
+use Rattle.std.specs.Prelude.{ℕ, zero, suc, Bool, true, false, cond, List, [], ◌∷◌, eqb, Result, Ok, Err, ⊤}
 use Rattle.refusals.specs.declared.Refusal.{Refusal}
 use Rattle.refusals.specs.declared.Refusal.TheVariants.{Configuration, OverDomain, BadQuote, OffTick, EarlierTime, CountLimit, SliceLength, LastQuoteBroken, TotalsUnmirrored, CellsUnmirrored, CellsNotTwicePairs, ImageLayout, ModelRow, RecordingUnsorted, WindowBackward, NoCalibratedState, SingularTransitions, NotConverged, Unrepresentable}
 
@@ -51,10 +49,14 @@ refusals =
     Unrepresentable ∷
     []
 
+-- what a check finds: nothing, or the first refusal
+abbrev pub Check : Type 0
+Check = Result ⊤ Refusal
+
 -- the refusal of a list that has the number k
 abbrev pub refused_by : List Refusal → ℕ → Check
-refused_by [] k = Fine
-refused_by (r ∷ rs) k = cond (eqb (number_of r) k) (Refused r) (refused_by rs k)
+refused_by [] k = Ok tt
+refused_by (r ∷ rs) k = cond (eqb (number_of r) k) (Err r) (refused_by rs k)
 
 -- refusal k; a number that no refusal has refuses nothing
 abbrev pub refusal : ℕ → Check
@@ -63,22 +65,22 @@ refusal k = refused_by refusals k
 -- refusal k where the test holds
 abbrev pub refuse_if : Bool → ℕ → Check
 refuse_if true k = refusal k
-refuse_if false k = Fine
+refuse_if false k = Ok tt
 
 -- the first refusal of two checks
 abbrev pub first_of : Check → Check → Check
-first_of Fine check = check
-first_of (Refused r) check = Refused r
+first_of (Ok _) check = check
+first_of (Err r) check = Err r
 
 -- the first refusal of the checks i, i + 1, .., k of them
 abbrev pub first_from : (ℕ → Check) → ℕ → ℕ → Check
-first_from f i zero = Fine
+first_from f i zero = Ok tt
 first_from f i (suc k) = first_of (f i) (first_from f (suc i) k)
 
 -- 0 if nothing is refused, else the refusal's number
 abbrev pub check_number : Check → ℕ
-check_number Fine = 0
-check_number (Refused r) = number_of r
+check_number (Ok _) = 0
+check_number (Err r) = number_of r
 
 -- the row that 13 names; of any other refusal, the row given
 abbrev pub row_or : Refusal → ℕ → ℕ

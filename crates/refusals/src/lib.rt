@@ -5,7 +5,7 @@ ghost use Rattle.std.specs.Prelude.{◌≡◌};
 ghost use Rattle.refusals.specs.Refusals.{number_of, check_number, row_or};
 
 // Document 01's refusals; the number of each is `number_of` of specs/Refusals.antt.
-#[derive(Clone, Copy)]
+#[derive(Clone, Copy, Debug, PartialEq, Eq)]
 pub enum Refusal {
     Configuration,
     OverDomain,
@@ -29,56 +29,51 @@ pub enum Refusal {
     Unrepresentable,
 }
 
-// What a check finds.
-#[derive(Clone, Copy)]
-pub enum Check {
-    Fine,
-    Refused(Refusal),
-}
+impl Refusal {
+    // The number of a refusal.
+    pub fn number(self) -> u64
+        ensures { result ≡ number_of self }
+    {
+        match self {
+            Refusal::Configuration => 1,
+            Refusal::OverDomain => 2,
+            Refusal::BadQuote => 3,
+            Refusal::OffTick => 4,
+            Refusal::EarlierTime => 5,
+            Refusal::CountLimit => 6,
+            Refusal::SliceLength => 7,
+            Refusal::LastQuoteBroken => 8,
+            Refusal::TotalsUnmirrored => 9,
+            Refusal::CellsUnmirrored => 10,
+            Refusal::CellsNotTwicePairs => 11,
+            Refusal::ImageLayout => 12,
+            Refusal::ModelRow(_) => 13,
+            Refusal::RecordingUnsorted => 14,
+            Refusal::WindowBackward => 15,
+            Refusal::NoCalibratedState => 16,
+            Refusal::SingularTransitions => 17,
+            Refusal::NotConverged => 18,
+            Refusal::Unrepresentable => 19,
+        }
+    }
 
-// The number of a refusal.
-pub fn number_of(r: Refusal) -> u64
-    ensures { result ≡ number_of r }
-{
-    match r {
-        Refusal::Configuration => 1,
-        Refusal::OverDomain => 2,
-        Refusal::BadQuote => 3,
-        Refusal::OffTick => 4,
-        Refusal::EarlierTime => 5,
-        Refusal::CountLimit => 6,
-        Refusal::SliceLength => 7,
-        Refusal::LastQuoteBroken => 8,
-        Refusal::TotalsUnmirrored => 9,
-        Refusal::CellsUnmirrored => 10,
-        Refusal::CellsNotTwicePairs => 11,
-        Refusal::ImageLayout => 12,
-        Refusal::ModelRow(_) => 13,
-        Refusal::RecordingUnsorted => 14,
-        Refusal::WindowBackward => 15,
-        Refusal::NoCalibratedState => 16,
-        Refusal::SingularTransitions => 17,
-        Refusal::NotConverged => 18,
-        Refusal::Unrepresentable => 19,
+    // The row that 13 names; of any other refusal, the row given.
+    pub fn row_or(self, row: u64) -> u64
+        ensures { result ≡ row_or self row }
+    {
+        let Refusal::ModelRow(i) = self else {
+            return row;
+        };
+        i as u64
     }
 }
 
 // 0 if nothing is refused, else the refusal's number.
-pub fn check_number(k: Check) -> u64
-    ensures { result ≡ check_number k }
+pub fn check_number(checked: Result<(), Refusal>) -> u64
+    ensures { result ≡ check_number checked }
 {
-    match k {
-        Check::Fine => 0,
-        Check::Refused(r) => number_of(r),
+    match checked {
+        Ok(()) => 0,
+        Err(refusal) => refusal.number(),
     }
-}
-
-// The row that 13 names; of any other refusal, the row given.
-pub fn row_or(r: Refusal, row: u64) -> u64
-    ensures { result ≡ row_or r row }
-{
-    let Refusal::ModelRow(i) = r else {
-        return row;
-    };
-    i as u64
 }

@@ -11,7 +11,7 @@ use lib.ListN.{length, get_or, replicate, length-replicate, get_or-replicate}
 use borrow.Author.Tests.{eqb-true}
 use Rattle.basics.specs.Lists.{bit, count, tab, square, sum}
 use Rattle.basics.proofs.Tests.{both, fails, eqb_same, same_test}
-use Rattle.basics.proofs.Lists.{length-tab, get_d-tab, tab-ext, tab-get_d, flat-row, flat-column, flat-below, get_d-square, square-get_d, sum-tab-add, sum-tab-zero, sum-tab-one, sum-replicate}
+use Rattle.basics.proofs.Lists.{length-tab, get_or-tab, tab-ext, tab-get_or, flat-row, flat-column, flat-below, get_or-square, square-get_or, sum-tab-add, sum-tab-zero, sum-tab-one, sum-replicate}
 use Rattle.tally.specs.Entries.{Entry, is_zero, entry_cell}
 use Rattle.tally.specs.Events.{Event, first, skip, pair, Counts, entries, goes, total_at, is_pair, is_skip, is_first, after, zeros}
 use Rattle.tally.specs.Rules.{Rule, InRange, Lawful, events, AllIn}
@@ -38,7 +38,7 @@ after_none K N mirror c z =
   where
     skips : tab K (λ k. get_or c.skips k 0 + 0) ≡ c.skips
     skips =
-        tab-ext K _ (λ k. get_or c.skips k 0) (λ k b. add-zero (get_or c.skips k 0)) ∙ tab-get_d c.skips K 0 z.skip-kinds
+        tab-ext K _ (λ k. get_or c.skips k 0) (λ k b. add-zero (get_or c.skips k 0)) ∙ tab-get_or c.skips K 0 z.skip-kinds
 
     largest : max c.largest 0 ≡ c.largest
     largest = omega arith
@@ -46,12 +46,12 @@ after_none K N mirror c z =
     cells : (l : List ℕ) → length l ≡ N * N → square N (λ i j. get_or l (i * N + j) 0 + 0) ≡ l
     cells l e =
         tab-ext (N * N) _ (λ k. get_or l (k / N * N + k % N) 0) (λ k b. add-zero (get_or l (k / N * N + k % N) 0))
-        ∙ square-get_d N l 0 e
+        ∙ square-get_or N l 0 e
 
     totals : tab N (λ i. get_or c.tables.totals i (pos 0) +ℤ pos 0) ≡ c.tables.totals
     totals =
         tab-ext N _ (λ i. get_or c.tables.totals i (pos 0)) (λ i b. +ℤ_idr (get_or c.tables.totals i (pos 0)))
-        ∙ tab-get_d c.tables.totals N (pos 0) z.totals-cells
+        ∙ tab-get_or c.tables.totals N (pos 0) z.totals-cells
 
 -- ---- sizes
 
@@ -200,10 +200,10 @@ after-balanced K N mirror below again c z B es r =
           mirrored (λ d. not (is_zero d)) (λ d. ap not (zero-neg d)) c.tables.moved B.moved-mirrored;
       totals-mirrored =
           λ i hi.
-          get_d-tab N total (mirror i) (pos 0) (below i hi)
+          get_or-tab N total (mirror i) (pos 0) (below i hi)
           ∙ (λ u. B.totals-mirrored i hi u +ℤ sums-mirrored K N mirror below again es r i hi u)
           ∙ sym
-          (ap neg_ℤ (get_d-tab N total i (pos 0) hi) ∙ neg_ℤ-+ℤ (get_or c.tables.totals i (pos 0)) (total_at F i));
+          (ap neg_ℤ (get_or-tab N total i (pos 0) hi) ∙ neg_ℤ-+ℤ (get_or c.tables.totals i (pos 0)) (total_at F i));
       twice =
           omega (
             arith,
@@ -225,9 +225,9 @@ after-balanced K N mirror below again c z B es r =
         → get_or (square N (λ x y. get_or l (x * N + y) 0 + cell_at (λ e. t e.change) F x y)) (mirror i * N + mirror j) 0 ≡ get_or
         (square N (λ x y. get_or l (x * N + y) 0 + cell_at (λ e. t e.change) F x y)) (i * N + j) 0
     mirrored t even l b i j hi hj =
-        get_d-square N f (mirror i) (mirror j) 0 (below i hi) (below j hj)
+        get_or-square N f (mirror i) (mirror j) 0 (below i hi) (below j hj)
         ∙ (λ u. b i j hi hj u + cells-mirrored K N mirror below again t even es r i j hi hj u)
-        ∙ sym (get_d-square N f i j 0 hi hj)
+        ∙ sym (get_or-square N f i j 0 hi hj)
       where
         f : ℕ → ℕ → ℕ
         f x y = get_or l (x * N + y) 0 + cell_at (λ e. t e.change) F x y
@@ -235,7 +235,7 @@ after-balanced K N mirror below again c z B es r =
     sums : (l : List ℕ) → length l ≡ N * N → (t : Entry → Bool) → sum (square N (λ x y. get_or l (x * N + y) 0 + cell_at t F x y)) ≡ sum l + count t F
     sums l e t =
         sum-tab-add (N * N) (λ k. get_or l (k / N * N + k % N) 0) (λ k. cell_at t F (k / N) (k % N))
-        ∙ (λ u. sum (square-get_d N l 0 e u) + sum-cells N t F (entries_below K N mirror below es r) u)
+        ∙ (λ u. sum (square-get_or N l 0 e u) + sum-cells N t F (entries_below K N mirror below es r) u)
 
 -- ---- neighbours
 

@@ -3,3 +3,4 @@ pub mod Step
 pub mod Touched
 pub mod Balance
 pub mod Overs
+pub mod Lent

@@ -13,7 +13,7 @@ use lib.ListN.{get_or}
 use borrow.Author.Tests.{eqb-true}
 use Rattle.basics.specs.Lists.{bit, count, greatest, tab, square}
 use Rattle.basics.proofs.Tests.{both, fails, eqb_same}
-use Rattle.basics.proofs.Lists.{greatest-append, count-snoc, sum-snoc, get_d-tab, tab-ext, set-tab, flat-row, flat-column, flat-below}
+use Rattle.basics.proofs.Lists.{greatest-append, count-snoc, sum-snoc, get_or-tab, tab-ext, set-tab, flat-row, flat-column, flat-below}
 use Rattle.tally.specs.Totals.{add_at}
 use Rattle.tally.specs.Entries.{Entry, Tables, is_zero, bump, bump_if, entry_cell, enter, enter_both, forth, back}
 use Rattle.tally.specs.Events.{Event, first, skip, pair, Counts, entered, entries, goes, stay_at, moved_at, total_at, is_pair, is_skip, size_of, after}
@@ -83,7 +83,7 @@ module _ (N : ℕ) (F : List Entry) (e : Entry) (hf : e.from < N) (ht : e.to < N
         in-square = flat-below N e.from e.to ht N hf
 
         there : get_or (tab (N * N) old) (entry_cell N e) 0 + 1 ≡ new (entry_cell N e)
-        there = ap (λ (n : ℕ). n + 1) (get_d-tab (N * N) old (entry_cell N e) 0 in-square) ∙ sym (here p)
+        there = ap (λ (n : ℕ). n + 1) (get_or-tab (N * N) old (entry_cell N e) 0 in-square) ∙ sym (here p)
     enter-cell false p =
         tab-ext (N * N) old new
         (λ k b. sym (new_is k ∙ ap (λ (x : Bool). old k + bit x) (none k) ∙ add-zero (old k)))
@@ -108,7 +108,7 @@ module _ (N : ℕ) (F : List Entry) (e : Entry) (hf : e.from < N) (ht : e.to < N
       where
         there : get_or (tab N old_t) e.from (pos 0) +ℤ e.change ≡ new_t e.from
         there =
-            ap (λ (n : ℤ). n +ℤ e.change) (get_d-tab N old_t e.from (pos 0) hf)
+            ap (λ (n : ℤ). n +ℤ e.change) (get_or-tab N old_t e.from (pos 0) hf)
             ∙ ap (λ (b : Bool). old_t e.from +ℤ cond b e.change (pos 0)) (sym (eqb_same e.from))
             ∙ sym (new_t-is e.from)
 
@@ -159,7 +159,7 @@ module _ (K N : ℕ) (mirror : ℕ → ℕ) (below : (i : ℕ) → i < N → mir
   one-skip : (k : ℕ) → k < K → bump (after K N mirror c es).skips k ≡ (after K N mirror c (es ++ skip k ∷ [])).skips
   one-skip k h =
       set-tab K old new k (get_or (tab K old) k 0 + 1) h
-      (ap (λ (n : ℕ). n + 1) (get_d-tab K old k 0 h) ∙ more (is_skip k) (get_or c.skips k 0) (skip k) 1 (ap bit (eqb_same k)))
+      (ap (λ (n : ℕ). n + 1) (get_or-tab K old k 0 h) ∙ more (is_skip k) (get_or c.skips k 0) (skip k) 1 (ap bit (eqb_same k)))
       (λ m b q. same (is_skip m) (get_or c.skips m 0) (skip k) (ap bit (fails (eqb k m) (λ e. q (sym (eqb-true k m e))))))
     where
       old : ℕ → ℕ

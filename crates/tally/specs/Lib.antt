@@ -1,5 +1,6 @@
 pub mod Totals
 pub mod Entries
+pub mod Lent
 pub mod Events
 pub mod Limits
 pub mod Rules

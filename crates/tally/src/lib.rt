@@ -3,18 +3,48 @@
 
 pub mod totals;
 
-ghost use Rattle.std.specs.Prelude.{◌≡◌, ◌≢◌, not, false, ◌+◌, ◌*◌, ◌≤◌, ◌<◌, length, neg_ℤ};
+ghost use Rattle.std.specs.Prelude.{◌≡◌, not, false, ◌+◌, ◌*◌, ◌≤◌, ◌<◌, length, nat_abs, neg_ℤ};
 ghost use Rattle.basics.specs.Lists.{cell_index};
-ghost use Rattle.basics.specs.Domain.{most_half_ticks};
-ghost use Rattle.tally.specs.Totals.{change, add_at};
-ghost use Rattle.tally.specs.Entries.{bump, tables, enter_both, touched_over};
-ghost use Rattle.tally.specs.Inner.{forth_of, back_of, Placed, cells_over, totals_over};
+ghost use Rattle.tally.specs.Totals.{add_at};
+ghost use Rattle.tally.specs.Entries.{bump, enter_both, touched_over};
+ghost use Rattle.tally.specs.Lent.{tables_of, SameSlices};
+ghost use Rattle.tally.specs.Inner.{forth_of, back_of, Placed, cells_over, totals_over, most_change};
 ghost use Rattle.tally.specs.Limits.{over_counter};
 
 use basics::{CELL_LIMIT, COUNTER_LIMIT};
 
-// A counted pair and its mirror by their states, with the mid before and after in half ticks.
+// The three tables of a calibrator, flat, as they are lent to be counted into.
+#[derive(Drop)]
+pub struct LentTables<'a> {
+    pub stay: &'a mut [u64],
+    pub moved: &'a mut [u64],
+    pub move_half_ticks: &'a mut [i64],
+}
+
+// The same, lent to be read.
 #[derive(Clone, Copy)]
+pub struct TablesView<'a> {
+    pub stay: &'a [u64],
+    pub moved: &'a [u64],
+    pub move_half_ticks: &'a [i64],
+}
+
+impl LentTables<'_> {
+    pub fn view(&self) -> TablesView<'_>
+        ensures stay { result.stay.now ≡ self.now.stay.now }
+        ensures moved { result.moved.now ≡ self.now.moved.now }
+        ensures totals { result.move_half_ticks.now ≡ self.now.move_half_ticks.now }
+    {
+        TablesView {
+            stay: self.stay,
+            moved: self.moved,
+            move_half_ticks: self.move_half_ticks,
+        }
+    }
+}
+
+// A counted pair and its mirror by their states, with the mid before and after in half ticks.
+#[derive(Clone, Copy, Debug, PartialEq, Eq)]
 pub struct PairEntry {
     pub from: usize,
     pub to: usize,
@@ -39,24 +69,14 @@ pub fn cell(n: usize, i: usize, j: usize) -> usize
     i * n + j
 }
 
-// 1 if both places are one, else 0.
-fn once_more(a: usize, b: usize) -> u64
-    ensures { ((a ≡ b) → result ≡ 1) × ((a ≢ b) → result ≡ 0) × (result ≤ 1) }
-{
-    if a == b {
-        return 1;
-    }
-    0
-}
-
+// The cells' and the totals' functions stay two: at one place cells add up to two, totals cancel, and a generic `t[a] += x; t[b] += y;` would need each
+// type's own condition in its contract.
 fn cells_within(t: &[u64], a: usize, b: usize) -> bool
     requires { (a < length t.now) × (b < length t.now) }
     ensures { result ≡ not (cells_over t.now a b) }
 {
-    let x = t[a];
-    let y = t[b];
-    let twice = once_more(a, b);
-    (x < CELL_LIMIT - twice) & (y < CELL_LIMIT)
+    let twice = u64::from(a == b);
+    (t[a] < CELL_LIMIT - twice) & (t[b] < CELL_LIMIT)
 }
 
 fn add_cells(t: &mut [u64], a: usize, b: usize)
@@ -67,64 +87,52 @@ fn add_cells(t: &mut [u64], a: usize, b: usize)
     t[b] += 1;
 }
 
-fn totals_within(t: &[i64], a: usize, b: usize, from: u64, to: u64) -> bool
-    requires { (a < length t.now) × (b < length t.now) × (from ≤ most_half_ticks) × (to ≤ most_half_ticks) }
-    ensures { result ≡ not (totals_over t.now a b (change from to)) }
+// At one place the change and its negative cancel.
+fn totals_within(t: &[i64], a: usize, b: usize, d: i64) -> bool
+    requires { (a < length t.now) × (b < length t.now) × (nat_abs d ≤ most_change) }
+    ensures { result ≡ not (totals_over t.now a b d) }
 {
     if a == b {
-        return totals::is_within_at(t, a);
+        return totals::is_within(t[a]);
     }
-    let x = totals::is_within_after(t, a, from, to);
-    let y = totals::is_within_after(t, b, to, from);
-    x & y
+    totals::is_within_after(t[a], d) & totals::is_within_after(t[b], -d)
 }
 
-fn add_totals(t: &mut [i64], a: usize, b: usize, from: u64, to: u64)
-    requires { (a < length t.old) × (b < length t.old) × (from ≤ most_half_ticks) × (to ≤ most_half_ticks) × (totals_over t.old a b (change from to) ≡ false) }
-    ensures { t.new ≡ add_at (add_at t.old a (change from to)) b (neg_ℤ (change from to)) }
+fn add_totals(t: &mut [i64], a: usize, b: usize, d: i64)
+    requires { (a < length t.old) × (b < length t.old) × (nat_abs d ≤ most_change) × (totals_over t.old a b d ≡ false) }
+    ensures { t.new ≡ add_at (add_at t.old a d) b (neg_ℤ d) }
 {
-    totals::add_at(t, a, from, to);
-    totals::add_at(t, b, to, from);
+    t[a] += d;
+    t[b] -= d;
 }
 
 // Whether every touched cell and total would be within its limit after both entries.
-pub fn pair_within(
-    n: usize,
-    stay: &[u64],
-    moved: &[u64],
-    move_half_ticks: &[i64],
-    e: PairEntry,
-) -> bool
-    requires { Placed n e (length stay.now) (length moved.now) (length move_half_ticks.now) }
-    ensures { result ≡ not (touched_over n (forth_of e) (back_of e) (enter_both n (forth_of e) (back_of e) (tables stay.now moved.now move_half_ticks.now))) }
+pub fn pair_within(n: usize, tables: &LentTables<'_>, e: PairEntry) -> bool
+    requires { Placed n e (tables_of tables.now) }
+    ensures { result ≡ not (touched_over n (forth_of e) (back_of e) (enter_both n (forth_of e) (back_of e) (tables_of tables.now))) }
 {
     let a = cell(n, e.from, e.to);
     let b = cell(n, e.mirror_from, e.mirror_to);
-    let t = totals_within(move_half_ticks, e.from, e.mirror_from, e.mid_from, e.mid_to);
-    if e.mid_from == e.mid_to {
-        return cells_within(stay, a, b) & t;
-    }
-    cells_within(moved, a, b) & t
+    let d = totals::change(e.mid_from, e.mid_to);
+    let seen = tables.view();
+    let cells = if d == 0 { seen.stay } else { seen.moved };
+    cells_within(cells, a, b) & totals_within(seen.move_half_ticks, e.from, e.mirror_from, d)
 }
 
 // Enters a pair and its mirror.
-pub fn enter_pair(
-    n: usize,
-    stay: &mut [u64],
-    moved: &mut [u64],
-    move_half_ticks: &mut [i64],
-    e: PairEntry,
-)
-    requires { Placed n e (length stay.old) (length moved.old) (length move_half_ticks.old)
-        × (touched_over n (forth_of e) (back_of e) (enter_both n (forth_of e) (back_of e) (tables stay.old moved.old move_half_ticks.old)) ≡ false) }
-    ensures { tables stay.new moved.new move_half_ticks.new ≡ enter_both n (forth_of e) (back_of e) (tables stay.old moved.old move_half_ticks.old) }
+pub fn enter_pair(n: usize, tables: &mut LentTables<'_>, e: PairEntry)
+    requires { Placed n e (tables_of tables.old)
+        × (touched_over n (forth_of e) (back_of e) (enter_both n (forth_of e) (back_of e) (tables_of tables.old)) ≡ false) }
+    ensures entered { tables_of tables.new ≡ enter_both n (forth_of e) (back_of e) (tables_of tables.old) }
+    ensures same_slices { SameSlices tables.old tables.new }
 {
     let a = cell(n, e.from, e.to);
     let b = cell(n, e.mirror_from, e.mirror_to);
-    add_totals(move_half_ticks, e.from, e.mirror_from, e.mid_from, e.mid_to);
-    if e.mid_from == e.mid_to {
-        add_cells(stay, a, b);
+    let d = totals::change(e.mid_from, e.mid_to);
+    add_totals(tables.move_half_ticks, e.from, e.mirror_from, d);
+    if d != 0 {
+        add_cells(tables.moved, a, b);
     } else {
-        add_cells(moved, a, b);
+        add_cells(tables.stay, a, b);
     }
 }

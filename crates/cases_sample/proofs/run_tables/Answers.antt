@@ -4,5 +4,5 @@ use Rattle.std.proofs.Common.{arith, sym}
 use Rattle.std.proofs.Math.Seq.{length-take-le}
 use Rattle.cases_sample.proofs.run_tables.Goals as goal
 
-pub slice_bounds-run_on-end-4 : goal.slice_bounds-run_on-end-4
-slice_bounds-run_on-end-4 g c = sym (length-take-le _ _ (omega arith))
+pub slice_bounds-run_on-end : goal.slice_bounds-run_on-end
+slice_bounds-run_on-end g c = sym (length-take-le _ _ (omega arith))

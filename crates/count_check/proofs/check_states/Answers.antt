@@ -1,23 +1,18 @@
-use mathlib.Core.Path.{ap, ◌∙◌, sym}
-use Rattle.refusals.specs.Refusals.{first_from}
+use mathlib.Core.Path.{◌∙◌, sym}
+use Rattle.std.proofs.lemmas.Result.{err_from_is_err_and}
 use Rattle.refusals.proofs.Refusals.{first_step, first-stop}
-use Rattle.count_check.proofs.Walks.{whole}
 use Rattle.count_check.proofs.check_states.Goals as goal
 
-pub loop-i-init : goal.loop-i-init
-loop-i-init c =
-    ap (first_from _ 0) (whole c.args.n)
-
-pub returns-in_default : goal.returns-in_default
-returns-in_default c =
+pub returns-in_err-check_state : goal.returns-in_err-check_state
+returns-in_err-check_state g c =
     let l = c.loop-i in
-    let k = c.check_state-k in
-    sym (l.invariant
-    ∙ first-stop _ l.i c.args.n k.result c.in_default.field-0 c.loop-i-test.true k.ensures
-    c.in_default.is)
+    let k = c.check_state in
+    let p = err_from_is_err_and c.from_residual.result c.from_residual.ensures.1 in
+    rw (p.1, p.2)
+    (sym (l.invariant ∙ first-stop _ l.i c.args.n k.result _ c.loop-i-test.true k.ensures c.in_err-check_state.was ∙ c.in_err-check_state.was))
 
 pub loop-i-preserved : goal.loop-i-preserved
-loop-i-preserved c =
+loop-i-preserved g c =
     let l = c.loop-i in
-    let k = c.check_state-k in
-    l.invariant ∙ first_step _ l.i c.args.n k.result c.loop-i-test.true k.ensures c.in-Fine.is
+    let k = c.check_state in
+    l.invariant ∙ first_step _ l.i c.args.n k.result c.loop-i-test.true k.ensures c.in_ok-check_state.was

@@ -1,7 +1,6 @@
--- `count_check::mirrors_of` meets its contract: each state below N gets its mirror. Loop over i, measure N − i; invariant: the array has 256 places, those
--- below i hold the mirrors (`filled-by` adds one), and level is the spread level of i, which `mirror_in` asks and `level_after` keeps. N is at most 256, so
--- that each store is inside the array; at the end i has reached N.
-use Prim.Native.Nat.{ℕ, ◌-◌, ◌<◌}
+-- `count_check::mirrors_of` meets its contract: each state below N gets its mirror. Loop over i; invariant: the array has 256 places, those below i hold the
+-- mirrors, and level is the spread level of i, which `mirror_in` asks and `level_after` keeps. N is at most 256, so that each store is inside the array.
+use Prim.Native.Nat.{ℕ, ◌<◌}
 use mathlib.Core.Path.{◌≡◌}
 use lib.ListN.{length, get_or}
 use Rattle.quotes.specs.States.{mirror_of}
@@ -10,6 +9,3 @@ use Rattle.count_check.proofs.mirrors_of.Given as goal
 
 abbrev pub invariant-loop-i : goal.invariant-loop-i
 invariant-loop-i l = (length l.r ≡ 256) × ((k : ℕ) → k < l.i → get_or l.r k 0 ≡ mirror_of l.w k) × HasLevel l.w l.level l.i
-
-abbrev pub decreases-loop-i : goal.decreases-loop-i
-decreases-loop-i l = l.n - l.i

@@ -1,21 +1,18 @@
-use mathlib.Core.Bool.{◌&&◌}
-use mathlib.Core.Path.{◌≡◌, ◌∙◌, sym}
-use mathlib.Core.List.{[]}
+-- `count_check::row_mirrored` meets its contract: whether all cells of row i equal their mirrors'. What `all` says of its answer is that each cell does, or
+-- that one does not; so it is the walk over the row (`all-by`).
+use Prim.Native.Nat.{ℕ, ◌<◌}
+use mathlib.Core.Path.{◌≡◌}
+use mathlib.Core.Bool.{true, false}
 use lib.ListN.{get_or}
-use Rattle.tally.specs.Entries.{Tables, tables}
-use Rattle.count_check.specs.Inner.{cells_in}
-use Rattle.count_check.proofs.Answers.{cell-is}
-use Rattle.count_check.proofs.Walks.{all-step}
-use Rattle.count_check.proofs.row_mirrored.Invariants.{cell}
+use Rattle.std.proofs.Common.{rules}
+use Rattle.std.proofs.iter.runs.Sources.{ranges}
+use Rattle.count_check.specs.Mirrors.{cell_mirrored}
+use Rattle.count_check.proofs.Walks.{all-by}
 use Rattle.count_check.proofs.row_mirrored.Goals as goal
 
-pub loop-j-preserved : goal.loop-j-preserved
-loop-j-preserved c =
-    let a = c.args in
-    let l = c.loop-j in
-    let t : Tables = tables (cells_in a.imaged a.stay.now a.sb.now) (cells_in a.imaged a.moved.now a.mb.now) [] in
-    let alike : (c.cells_alike-a.result && c.cells_alike-b.result)
-    ≡ cell a.n a.mirrors.now a.stay.now a.moved.now a.sb.now a.mb.now a.imaged a.i l.j =
-    cell-is a.n (λ k. get_or a.mirrors.now k 0) t a.i l.j _ _ _ _ c.cell-x.ensures.0 c.cell-y.ensures.0
-    c.cells_alike-a.ensures c.cells_alike-b.ensures in
-    l.invariant ∙ all-step _ l.j a.n c.loop-j-test.true (sym alike ∙ c.if-not-a-b.false)
+pub returns : goal.returns
+returns g c =
+    let same = cell_mirrored c.args.n (λ k. get_or c.args.mirrors.now k 0) (g.S.Counted.held c.args.source.now) c.args.i in
+    let each : c.all.result ≡ true → (k : ℕ) → k < c.args.n → same k ≡ true = search (rules, ranges) in
+    let some : c.all.result ≡ false → (k : ℕ) × (k < c.args.n) × (same k ≡ false) = search (rules, ranges) in
+    all-by same c.args.n c.all.result each some

@@ -1,10 +1,17 @@
-use mathlib.Core.Path.{◌∙◌}
-use Rattle.count_check.proofs.Sums.{sum-end}
-use Rattle.count_check.proofs.Readings.{cells-length}
+use native.Mathlib.Omega.{arith}
+use Rattle.count_check.proofs.Sums.{sum-drop, sum-end}
 use Rattle.count_check.proofs.sum_capped.Goals as goal
 
 pub returns : goal.returns
-returns c =
-    let a = c.args in
+returns g c =
+    let t = g.S.Counted.held c.args.source.now in
     let l = c.loop-i in
-    sum-end _ a.n l.i l.a (cells-length _ _ a.t.now a.b.now c.requires) c.loop-i-test.false l.invariant.0 ∙ l.invariant.1
+    omega (arith, sum-end t.stay l.i (omega arith), sum-end t.moved l.i (omega arith), l.invariant.0, l.invariant.1)
+
+pub loop-i-preserved : goal.loop-i-preserved
+loop-i-preserved g c =
+    let t = g.S.Counted.held c.args.source.now in
+    let l = c.loop-i in (
+      (omega arith, omega (arith, sum-drop t.stay l.i (omega arith), l.invariant.0)),
+      (omega arith, omega (arith, sum-drop t.moved l.i (omega arith), l.invariant.1)),
+    )

@@ -1,17 +1,18 @@
--- `fit_marking::has_positive` meets its contract: a loop over row x that stops at its first positive cell. Invariant: none of the first j cells is positive
--- (`Searching`). The measure is n less j. The ways out: a positive cell (`searching-found`), and the end of the row (`searching-all`).
-use borrow.Author.Tests.{lt-ltb, le-ltb}
-use native.Mathlib.Omega.{arith}
-use Rattle.fit_marking.proofs.Below.{searching-none, searching-more, searching-found}
+-- `fit_marking::has_positive` meets its contract: `any` over row x, whose cells are those of the definition (`row-cells`, `some-tab`).
+use Rattle.std.proofs.Common.{rules, ◌∙◌, ap}
+use borrow.Author.Tests.{tests}
+use Rattle.std.specs.List.{list_any}
+use Rattle.std.proofs.lemmas.Iterator.{YieldsList-from_slice}
+use Rattle.std.proofs.lemmas.Iterator.Search.{any_from_yields_List}
+use Rattle.basics.specs.Lists.{cell_at}
+use Rattle.fit_marking.specs.Inner.{row_of, is_positive}
+use Rattle.fit_marking.proofs.Rows.{row-cells, some-tab}
 use Rattle.fit_marking.proofs.has_positive.Goals as goal
 
-pub returns-then-table-start-gt0 : goal.returns-then-table-start-gt0
-returns-then-table-start-gt0 c =
-    searching-found c.loop-j.invariant (omega arith) (lt-ltb _ _ c.if-table-start-gt0.true)
-
-pub loop-j-preserved : goal.loop-j-preserved
-loop-j-preserved c =
-    searching-more c.loop-j.invariant (omega arith) (le-ltb _ _ c.if-table-start-gt0.false)
-
-pub loop-j-init : goal.loop-j-init
-loop-j-init c = searching-none
+pub returns : goal.returns
+returns c =
+    let a = c.args in
+    let r = row_of a.n a.table.now a.x in
+    any_from_yields_List is_positive _ _ _ c.any.ensures.ran (YieldsList-from_slice r cc) (λ x b q k. search (rules, tests))
+    ∙ ap (list_any is_positive) (row-cells a.n a.table.now a.x c.requires)
+    ∙ some-tab is_positive a.n (cell_at a.n a.table.now a.x)

@@ -1,25 +1,19 @@
--- `fit_marking::row_sum` meets its contract: a loop that adds the cells of row x. Invariant: the sum is that of the first j cells. The measure is n less j. No
--- addition passes the limit of the type: the sum of the first cells is at most that of the whole row (`sum-part`), which the contract requires to be at most
--- 2^53.
-use mathlib.Core.Path.{refl, sym}
-use Prim.Native.Nat.{◌≤◌, ◌+◌}
-use native.Mathlib.Omega.{arith}
-use Rattle.basics.specs.Lists.{cell_at}
-use Rattle.fit_marking.proofs.Below.{sum-none, sum_more, sum-part}
+-- `fit_marking::row_sum` meets its contract: `sum` over row x, whose sum is that of the definition (`row-sum`). It fits, since the contract requires it to be
+-- at
+-- most 2^53.
+use Rattle.std.proofs.Common.{◌∙◌, arith}
+use Rattle.std.proofs.lemmas.Iterator.{YieldsList-from_slice}
+use Rattle.std.proofs.lemmas.Iterator.Consumers.{fits_from_yields_list, sum_from_yields_List}
+use Rattle.fit_marking.specs.Inner.{row_of}
+use Rattle.fit_marking.proofs.Rows.{row-sum}
 use Rattle.fit_marking.proofs.row_sum.Goals as goal
 
-pub loop-j-init : goal.loop-j-init
-loop-j-init c = (omega arith, refl, sym (sum-none _))
-
-pub overflow_add-sum-in-loop-j : goal.overflow_add-sum-in-loop-j
-overflow_add-sum-in-loop-j c =
+pub sum-requires-clause-fits : goal.sum-requires-clause-fits
+sum-requires-clause-fits c =
     let a = c.args in
-    let j = c.loop-j.j in
-    let g : j + 1 ≤ a.n = omega arith in
-    let p = sum-part (j + 1) a.n (cell_at a.n a.table.now a.x) g in
-    let q = sum_more j (cell_at a.n a.table.now a.x) in
-    omega arith
+    fits_from_yields_list _ _ (YieldsList-from_slice (row_of a.n a.table.now a.x) cc) (omega (arith, row-sum a.n a.table.now a.x c.requires.0))
 
-pub loop-j-preserved : goal.loop-j-preserved
-loop-j-preserved c =
-    (omega arith, omega arith, rw sum_more (cc))
+pub returns : goal.returns
+returns c =
+    let a = c.args in
+    sum_from_yields_List _ _ c.sum.ensures.ran (YieldsList-from_slice (row_of a.n a.table.now a.x) cc) ∙ row-sum a.n a.table.now a.x c.requires.0

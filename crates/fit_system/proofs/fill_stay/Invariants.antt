@@ -1,18 +1,8 @@
-use Prim.Native.Nat.{◌-◌}
-use mathlib.Core.Bool.{cond}
-use lib.Dec.{eqb}
-use lib.IntN.{pos}
-use lib.Ieee.{binary64, sub, neg}
-use Rattle.floats.specs.Floats.{one}
-use Rattle.basics.specs.Lists.{cell_at}
+-- `fit_system::fill_stay` meets its contract: 1 − Q of a row into its places. Invariant: k of them are filled, and every other place is as it was (`Filling`).
+use lib.ListN.{length}
 use Rattle.fit_linear.proofs.Parts.{Filling}
-use Rattle.fit_system.specs.Rows.{part}
+use Rattle.fit_system.specs.Inner.{stay_part}
 use Rattle.fit_system.proofs.fill_stay.Given as goal
 
 abbrev pub invariant-loop-k : goal.invariant-loop-k
-invariant-loop-k l =
-    Filling l.to l.n (λ j. let q = part l.is_used (pos (cell_at l.n l.stay l.x j)) l.observed in cond (eqb l.x j) (sub binary64 one q) (neg q))
-    l.initial.scratch l.k l.scratch
-
-abbrev pub decreases-loop-k : goal.decreases-loop-k
-decreases-loop-k l = l.n - l.k
+invariant-loop-k l = Filling l.to (length l.cells) (stay_part l.cells l.x l.observed) l.initial.scratch l.k l.scratch

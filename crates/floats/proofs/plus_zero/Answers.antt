@@ -8,5 +8,5 @@ use Rattle.floats.proofs.plus_zero.Goals as goal
 pub returns-then-x : goal.returns-then-x
 returns-then-x c = plus-zero _ (subst T (sym c.well_formed.0.1) tt) c.if-x.true
 
-pub returns : goal.returns
-returns c = plus-other _ c.if-x.false
+pub returns-else-x : goal.returns-else-x
+returns-else-x c = plus-other _ c.if-x.false

@@ -12,5 +12,5 @@ loop-i-preserved c =
     let l = c.loop-i in (
       omega arith,
       l.invariant.1
-          ∙ same-agrees a.b.now a.h.now l.i c.loop-i-test.true c.get_word.ensures c.if-get_word-h.false,
+          ∙ same-agrees a.b.now a.h.now l.i c.loop-i-test.true c.get_word.ensures c.if-get_word-word.false,
     )

@@ -1,19 +1,16 @@
-use mathlib.Core.List.{map-id}
-use Rattle.std.proofs.Common.{arith, refl, ◌∙◌, length}
+use Rattle.std.proofs.Common.{length}
 use Rattle.image_words.proofs.Tables.{read-to-next, read-to-last}
 use Rattle.image_words.proofs.get_table.Goals as goal
 
-pub loop-i-init : goal.loop-i-init
-loop-i-init c = (refl, refl)
-
 pub loop-i-preserved : goal.loop-i-preserved
-loop-i-preserved c =
+loop-i-preserved g c =
     let a = c.args in
     let l = c.loop-i in
-    read-to-next (λ w. w) a.bytes.now a.at (length a.t.now) l.t l.i l.invariant (omega arith) c.get_word.ensures refl
+    read-to-next g.T.Word.number a.bytes.now a.at (length a.t.now) l.t l.i l.invariant c.loop-i-test.true l.auto.t
+    c.get_word.ensures c.from_word.ensures
 
 pub returns : goal.returns
-returns c =
+returns g c =
     let a = c.args in
     let l = c.loop-i in
-    read-to-last (λ w. w) a.bytes.now a.at (length a.t.now) l.t l.i l.invariant (omega arith) ∙ map-id _
+    read-to-last g.T.Word.number a.bytes.now a.at (length a.t.now) l.t l.i l.invariant c.loop-i-test.false l.auto.t

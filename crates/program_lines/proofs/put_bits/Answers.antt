@@ -5,8 +5,8 @@ use Rattle.program_text.proofs.Puts.{length-hex16}
 use Rattle.program_lines.proofs.Within.{bytes-in, bits_in, both}
 use Rattle.program_lines.proofs.put_bits.Goals as goal
 
-pub put_bytes-requires : goal.put_bytes-requires
-put_bytes-requires c = omega (arith, length-hex16 c.args.w, c.put_hex-a.ensures.next-is)
+pub text-requires : goal.text-requires
+text-requires c = omega (arith, length-hex16 c.args.w, c.hex.ensures.put.next-is)
 
 pub returns : goal.returns
-returns c = both (bits_in _ c.put_hex-a.ensures) (bytes-in c.put_bytes.ensures)
+returns c = both (bits_in _ c.hex.ensures) (bytes-in c.text.ensures)

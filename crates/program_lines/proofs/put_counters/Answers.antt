@@ -5,4 +5,4 @@ use Rattle.program_lines.proofs.put_counters.Goals as goal
 
 pub returns : goal.returns
 returns c =
-    both (both (both (both c.put_named-a.ensures c.put_named-b.ensures) c.put_named-c.ensures) c.put_named-d.ensures) c.put_named.ensures
+    both (both (both (both c.put_named.ensures c.put_named-2.ensures) c.put_named-3.ensures) c.put_named-4.ensures) c.put_named-5.ensures

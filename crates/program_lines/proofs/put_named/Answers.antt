@@ -5,14 +5,12 @@ use Rattle.program_text.proofs.Decimals.{decimal-word}
 use Rattle.program_lines.proofs.Within.{bytes-in, number_in, loosely, both}
 use Rattle.program_lines.proofs.put_named.Goals as goal
 
-pub put_number-b-requires : goal.put_number-b-requires
-put_number-b-requires c = omega (arith, decimal-word c.args.n c.ranges.n.fits, c.put_bytes-a.ensures.next-is)
+pub number-requires : goal.number-requires
+number-requires c = omega (arith, decimal-word c.args.n c.ranges.n.fits, c.text.ensures.put.next-is)
 
-pub put_bytes-requires : goal.put_bytes-requires
-put_bytes-requires c =
-    omega (arith, decimal-word c.args.n c.ranges.n.fits, c.put_bytes-a.ensures.next-is, c.put_number-b.ensures.next-is)
+pub text-requires-2 : goal.text-requires-2
+text-requires-2 c = omega (arith, decimal-word c.args.n c.ranges.n.fits, c.text.ensures.put.next-is, c.number.ensures.put.next-is)
 
 pub returns : goal.returns
 returns c =
-    loosely (omega arith)
-    (both (both (bytes-in c.put_bytes-a.ensures) (number_in c.ranges.n.fits c.put_number-b.ensures)) (bytes-in c.put_bytes.ensures))
+    loosely (omega arith) (both (both (bytes-in c.text.ensures) (number_in c.ranges.n.fits c.number.ensures)) (bytes-in c.text-2.ensures))

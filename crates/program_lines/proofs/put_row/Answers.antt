@@ -4,4 +4,4 @@ use Rattle.program_lines.proofs.Within.{both}
 use Rattle.program_lines.proofs.put_row.Goals as goal
 
 pub returns : goal.returns
-returns c = rw (← c.row_word.ensures) (both (both c.put_row_numbers-a.ensures c.put_row_floats-b.ensures) c.put_named.ensures)
+returns c = rw (← c.row_word.ensures) (both (both c.put_row_numbers.ensures c.put_row_floats.ensures) c.put_named.ensures)

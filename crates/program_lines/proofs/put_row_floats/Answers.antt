@@ -5,4 +5,4 @@ use Rattle.program_lines.proofs.put_row_floats.Goals as goal
 pub returns : goal.returns
 returns c =
     rw (← c.row_word.ensures, ← c.row_word-2.ensures, ← c.row_word-3.ensures)
-    (both (both c.put_bits-a.ensures c.put_bits-b.ensures) c.put_bits.ensures)
+    (both (both c.put_bits.ensures c.put_bits-2.ensures) c.put_bits-3.ensures)

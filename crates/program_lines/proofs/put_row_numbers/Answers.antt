@@ -5,4 +5,4 @@ use Rattle.program_lines.proofs.put_row_numbers.Goals as goal
 pub returns : goal.returns
 returns c =
     rw (← c.row_word.ensures, ← c.row_word-2.ensures, ← c.row_word-3.ensures)
-    (both (both (both c.put_spaced-a.ensures c.put_spaced-b.ensures) c.put_spaced-c.ensures) c.put_spaced.ensures)
+    (both (both (both c.put_spaced.ensures c.put_spaced-2.ensures) c.put_spaced-3.ensures) c.put_spaced-4.ensures)

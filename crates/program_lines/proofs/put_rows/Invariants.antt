@@ -1,11 +1,9 @@
--- `program_lines::put_rows` meets its contract. Invariant: the lines of states 0 to i - 1 are written, in at most 156 × i bytes, and the output is as long as
--- it was. The measure is n - i. Before the first round there are none (`no_rows`); one row more is `row_more`; at the end i is n.
-use Rattle.std.proofs.Common.{◌≡◌, ◌*◌, ◌-◌, ◌≤◌, length}
-use Rattle.program_lines.specs.Lines.{row_lines, PutIn}
+-- `program_lines::put_rows` meets its contract. Invariant: the lines of states 0 to i - 1 are written, in at most 156 × i bytes. One row more is
+-- `row_more`.
+use Rattle.std.proofs.Common.{◌*◌}
+use Rattle.program_lines.specs.Lines.{row_lines}
+use Rattle.program_lines.specs.Inner.{WroteIn}
 use Rattle.program_lines.proofs.put_rows.Given as goal
 
 abbrev pub invariant-loop-i : goal.invariant-loop-i
-invariant-loop-i l = (l.i ≤ l.n) × (length l.out ≡ length l.fn.out) × PutIn (156 * l.i) l.fn.out l.at (row_lines l.model l.i) l.next l.out
-
-abbrev pub decreases-loop-i : goal.decreases-loop-i
-decreases-loop-i l = l.n - l.i
+invariant-loop-i l = WroteIn (156 * l.i) l.fn.out (row_lines l.model l.i) l.out

@@ -4,11 +4,11 @@ use Rattle.program_text.proofs.Decimals.{decimal-word}
 use Rattle.program_lines.proofs.Within.{bytes-in, number_in, both}
 use Rattle.program_lines.proofs.put_spaced.Goals as goal
 
-pub put_number-a-requires : goal.put_number-a-requires
-put_number-a-requires c = omega (arith, decimal-word c.args.n c.ranges.n.fits)
+pub number-requires : goal.number-requires
+number-requires c = omega (arith, decimal-word c.args.n c.ranges.n.fits)
 
-pub put_bytes-requires : goal.put_bytes-requires
-put_bytes-requires c = omega (arith, decimal-word c.args.n c.ranges.n.fits, c.put_number-a.ensures.next-is)
+pub text-requires : goal.text-requires
+text-requires c = omega (arith, decimal-word c.args.n c.ranges.n.fits, c.number.ensures.put.next-is)
 
 pub returns : goal.returns
-returns c = both (number_in c.ranges.n.fits c.put_number-a.ensures) (bytes-in c.put_bytes.ensures)
+returns c = both (number_in c.ranges.n.fits c.number.ensures) (bytes-in c.text.ensures)

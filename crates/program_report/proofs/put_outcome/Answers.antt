@@ -3,5 +3,5 @@
 use Rattle.program_lines.proofs.Within.{both}
 use Rattle.program_report.proofs.put_outcome.Goals as goal
 
-pub returns-in-Fitted : goal.returns-in-Fitted
-returns-in-Fitted c = rw c.in-Fitted.is (both c.put_counters-at.ensures c.put_fit.ensures)
+pub returns-in-Ok : goal.returns-in-Ok
+returns-in-Ok c = rw c.in-Ok.is (both c.put_counters.ensures c.put_fit.ensures)

@@ -1,6 +1,6 @@
 -- `recording::window_of` meets its contract: 7, 14 and 15 are judged in the definition's order. The two ends are the numbers of quotes before the two times,
--- and the part would end before it begins exactly where the definition says 15. The ways out: words that are no multiple of five (`way-uneven`), times not in
--- order (`way-unsorted`), a backward window with a quote in it (`way-backward`), and the part (`way-part`). No loop.
+-- and the part would end before it begins exactly where the definition says 15. The ways out: words that are no multiple of five, times not in
+-- order, a backward window with a quote in it (`way-backward`), and the part (`way-part`).
 use mathlib.Core.Path.{sym, ◌∙◌}
 use Rattle.recording.proofs.Windows.{way-backward, way-part}
 use Rattle.recording.proofs.window_of.Goals as goal

@@ -1,11 +1,11 @@
--- `fit_linear::inner::clear_row` meets its contract: column c of row r is cleared by row c. No loop. Where the factor equals zero the row stays as it is, and
--- that is the cleared row (`clear_none`); else the row less the factor times row c is (`clear-some`). The callee asks that the two rows are apart
--- (`rows_apart`).
-use Rattle.fit_linear.proofs.Rows.{clear_none, clear-some}
+-- `fit_linear::inner::clear_row` meets its contract: column c of the row is cleared by the row `top`. No loop. Where the factor equals zero the row stays as it
+-- is, and that is the cleared row (`cleared-skipped`); else the row less the factor times `top` is (`cleared-done`).
+use Rattle.std.proofs.Common.{sym, ◌∙◌}
+use Rattle.fit_linear.proofs.Rows.{cleared-skipped, cleared-done}
 use Rattle.fit_linear.proofs.inner.clear_row.Goals as goal
 
 pub returns-then-factor : goal.returns-then-factor
-returns-then-factor c = clear_none c.args.w c.args.c c.args.r _ c.if-factor.true
+returns-then-factor c = λ k h. sym (cleared-skipped _ _ _ k c.if-factor.true)
 
 pub returns : goal.returns
-returns c = clear-some c.args.w c.args.c c.args.r _ c.if-factor.false c.eliminate_row.ensures
+returns c = λ k h. c.subtract.ensures k h ∙ sym (cleared-done _ _ _ k c.if-factor.false)

@@ -1,12 +1,10 @@
--- `fit_linear::inner::clear_rows` meets its contract: column c of rows lo to hi − 1 is cleared by row c. Invariant: rows lo to r − 1 are cleared, all else is
--- as it was (`ClearedRows`). Measure: hi − r. Row c lies outside rows lo to hi − 1, so it still holds what it held at entry, and row r is not written yet: the
--- callee clears row r as the contract says (`cleared-rows-more`). At the end r is hi.
-use Rattle.std.proofs.Common.{◌-◌, ◌≡◌, ◌≤◌, length}
-use Rattle.fit_linear.specs.Inner.{ClearedRows}
+-- `fit_linear::inner::clear_rows` meets its contract: column c of n rows is cleared by the row `top`. Invariant: the first r rows are cleared, all else is as
+-- it was (`Becomes`). Row r is not written yet, and the callee clears it as the contract says (`rows-more`).
+use Rattle.fit_linear.specs.Arithmetic.{rounded}
+use Rattle.fit_linear.specs.Elimination.{cleared}
+use Rattle.fit_linear.specs.Inner.{float_at, rows_of, Becomes}
 use Rattle.fit_linear.proofs.inner.clear_rows.Given as goal
 
 abbrev pub invariant-loop-r : goal.invariant-loop-r
-invariant-loop-r l = (l.lo ≤ l.r) × (l.r ≤ l.hi) × (length l.rows ≡ length l.fn.rows) × ClearedRows l.w l.c l.lo l.r l.fn.rows l.rows
-
-abbrev pub decreases-loop-r : goal.decreases-loop-r
-decreases-loop-r l = l.hi - l.r
+invariant-loop-r l =
+    Becomes l.r l.w (λ r. cleared rounded (rows_of l.w l.fn.rows r l.c) (rows_of l.w l.fn.rows r) (float_at l.top)) l.fn.rows l.rows

@@ -1,12 +1,8 @@
 -- `fit_linear::inner::swap_rows` meets its contract: rows c and p change places. A row with itself: nothing is done (`swapped-self`). Else the invariant: the
--- first k floats of the two rows have changed places, all else is as it was (`Swapped`). Measure: w − k. Two rows are apart (`rows_apart`), so one exchange
+-- first k floats of the two rows have changed places, all else is as it was (`Swapped`). Two rows are apart (`rows_apart`), so one exchange
 -- touches no other float of them (`swapped-more`). At the end k is w.
-use Rattle.std.proofs.Common.{◌-◌, ◌≡◌, ◌≤◌, length}
 use Rattle.fit_linear.specs.Inner.{Swapped}
 use Rattle.fit_linear.proofs.inner.swap_rows.Given as goal
 
 abbrev pub invariant-loop-k : goal.invariant-loop-k
-invariant-loop-k l = (l.k ≤ l.w) × (length l.rows ≡ length l.fn.rows) × Swapped l.a l.b l.k l.fn.rows l.rows
-
-abbrev pub decreases-loop-k : goal.decreases-loop-k
-decreases-loop-k l = l.w - l.k
+invariant-loop-k l = Swapped l.a l.b l.k l.fn.rows l.rows

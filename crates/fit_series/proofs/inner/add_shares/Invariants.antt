@@ -1,7 +1,6 @@
 -- `fit_series::inner::add_shares` meets its contract: rounds of the share, from F. Invariant: share is what `done` rounds make, next is the last product where
--- a round was made, all else is as it was (`Shared`). Measure: rounds − done. The rows keep B and F, so one call more is one round more (`shares-more`); at the
+-- a round was made, all else is as it was (`Shared`). The rows keep B and F, so one call more is one round more (`shares-more`); at the
 -- start share holds F, as the contract requires (`shares-none`). At the end done is rounds.
-use Rattle.std.proofs.Common.{◌≡◌, ◌≤◌, ◌-◌, length}
 use Rattle.fit_linear.specs.Arithmetic.{rounded}
 use Rattle.fit_series.specs.Series.{share_after}
 use Rattle.fit_series.specs.Inner.{Shared, last_product, solved_b, solved_f}
@@ -9,10 +8,5 @@ use Rattle.fit_series.proofs.inner.add_shares.Given as goal
 
 abbrev pub invariant-loop-done : goal.invariant-loop-done
 invariant-loop-done l =
-    (l.done ≤ l.rounds)
-    × (length l.s ≡ length l.fn.s)
-    × Shared l.n l.done (share_after rounded l.n (solved_b l.n l.fn.s) (solved_f l.n l.fn.s) l.done)
-    (last_product l.n (solved_b l.n l.fn.s) (solved_f l.n l.fn.s) l.done) l.fn.s l.s
-
-abbrev pub decreases-loop-done : goal.decreases-loop-done
-decreases-loop-done l = l.rounds - l.done
+    Shared l.at.n l.done (share_after rounded l.at.n (solved_b l.at.n l.fn.s) (solved_f l.at.n l.fn.s) l.done)
+    (last_product l.at.n (solved_b l.at.n l.fn.s) (solved_f l.at.n l.fn.s) l.done) l.fn.s l.s

@@ -1,23 +1,22 @@
--- `history_replay::inner::replay_call` meets its contract: call k is made by its kind, and each way out is a step of the list: a quote (`step-quote`), a save
--- (`step-save`), a restore (`step-restore`). No loop. The reads of the call's words lie in the list by the first part of the `requires`; that the bytes of a
--- save or a restore lie in the room, so that start + length fits and the part can be lent, is `call_lies`, from the second part and the
--- test that it is no quote.
+-- `history_replay::inner::replay_call` meets its contract: a quote (the search), a save (`save-steps`), a restore (`restore-steps`).
+use mathlib.Core.Path.{subst}
 use lib.ListN.{length}
+use Rattle.tally.specs.Lent.{tables_of}
 use Rattle.history_replay.specs.Replay.{site}
-use Rattle.history_replay.proofs.Coding.{call_lies}
-use Rattle.history_replay.proofs.Steps.{step-save, step-restore}
+use Rattle.history_replay.specs.Inner.{LiesIn}
+use Rattle.history_replay.proofs.Steps.{save-steps, restore-steps}
 use Rattle.history_replay.proofs.inner.replay_call.Goals as goal
 
-pub returns-then-kind-eq1 : goal.returns-then-kind-eq1
-returns-then-kind-eq1 c =
+pub returns-in-Save-clause-steps : goal.returns-in-Save-clause-steps
+returns-in-Save-clause-steps c =
     let a = c.args in
-    let s = c.save-answer in
-    let lies = call_lies (length a.room.now) a.calls.now a.k c.if-kind-eq0.false c.requires.1 in
-    step-save a.config a.calls.now a.k (site a.rec a.stay.now a.moved.now a.move_half_ticks.now a.room.now)
-    c.if-kind-eq0.false c.if-kind-eq1.true lies s.new.out s.ensures c.save-answer.auto.out c.check_number.ensures
+    let v = c.view.ensures in
+    rw c.in-Save.is
+    (save-steps a.config (site a.rec.now (tables_of a.tables.now) a.room.now) c.in-Save.part
+    (subst (LiesIn (length a.room.now)) c.in-Save.is c.requires) (rw (v.stay, v.moved, v.totals) at c.save-answer.ensures) c.save-answer.auto.out c.check_number.ensures)
 
-pub returns : goal.returns
-returns c =
+pub returns-in-Restore-clause-steps : goal.returns-in-Restore-clause-steps
+returns-in-Restore-clause-steps c =
     let a = c.args in
-    step-restore a.config a.calls.now a.k (site a.rec a.stay.now a.moved.now a.move_half_ticks.now a.room.now)
-    c.if-kind-eq0.false c.if-kind-eq1.false c.replay_restore.ensures
+    rw c.in-Restore.is
+    (restore-steps a.config (site a.rec.now (tables_of a.tables.now) a.room.now) c.in-Restore.part c.replay_restore.ensures.ends)

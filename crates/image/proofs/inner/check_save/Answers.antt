@@ -2,11 +2,12 @@
 -- (7), the last quote (8), the counts (6, 9 to 11). Each way out rewrites the answers and tests before it. Past the first test the configuration is valid and
 -- the tables have its lengths (`tables-known`), which is what the callees ask.
 use mathlib.Core.Path.{sym, ◌∙◌}
-use Rattle.calibrator.proofs.Lengths.{tables-known, lengths-known}
+use Rattle.tally.specs.Lent.{tables_in}
+use Rattle.calibrator.proofs.Lengths.{tables-known}
+use Rattle.count_check.proofs.Answers.{has-tables}
 use Rattle.image.proofs.inner.check_save.Goals as goal
 
-pub check_mirrored_counts-requires : goal.check_mirrored_counts-requires
-check_mirrored_counts-requires c =
-    let k = tables-known c.args.config _ _ _ (sym c.check_table_lengths-lengths.ensures ∙ c.in-Fine.is) in
-    let z = lengths-known _ _ _ _ k.1 in
-    (k.0, z.stay-cells, z.moved-cells, z.totals-cells)
+pub check_tables-requires : goal.check_tables-requires
+check_tables-requires c =
+    let k = tables-known c.args.config _ _ _ (sym c.check_table_lengths.ensures ∙ c.in_ok-check_table_lengths.was) in
+    (k.0, has-tables c.args.config (tables_in c.args.tables) k.0 k.1)

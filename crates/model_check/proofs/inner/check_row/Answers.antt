@@ -1,4 +1,5 @@
--- `model_check::inner::check_row` meets its contract: row i and the row of its mirror state are read and judged. A row that is not fine is refused with 13 at i,
+-- `model_check::inner::check_row` meets its contract: row i and the row of its mirror state are read and judged. A row that is not fine is refused with 13 at
+-- i,
 -- else nothing is. No loop. The mirror's row lies in the table since the mirror of a state is a state (`mirror-below`).
 use native.Mathlib.Omega.{arith}
 use Rattle.quotes.proofs.States.{mirror-below}

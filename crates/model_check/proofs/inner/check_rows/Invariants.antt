@@ -11,6 +11,3 @@ use Rattle.model_check.proofs.inner.check_rows.Given as goal
 abbrev pub invariant-loop-i : goal.invariant-loop-i
 invariant-loop-i l =
     (first_from (check_row l.config l.model) 0 l.n ≡ first_from (check_row l.config l.model) l.i (l.n - l.i)) × HasLevel l.w l.level l.i
-
-abbrev pub decreases-loop-i : goal.decreases-loop-i
-decreases-loop-i l = l.n - l.i

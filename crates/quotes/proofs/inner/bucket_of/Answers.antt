@@ -9,5 +9,5 @@ overflow_sub-result-else-bid-ask c =
     omega (
       arith,
       c.lower_bucket-b.ensures,
-      lower-le c.smaller.result c.larger.result c.args.n,
+      lower-le c.min.result c.max.result c.args.n,
     )

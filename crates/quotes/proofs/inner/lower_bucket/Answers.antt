@@ -10,6 +10,6 @@ pub returns : goal.returns
 returns c =
     let a = c.args in
     let p = c.requires in
-    let scaled : c.larger-scaled.result - 1 ≡ a.lighter * a.n - 1 = omega (arith, c.larger-scaled.ensures) in
+    let scaled : c.max-scaled.result - 1 ≡ a.lighter * a.n - 1 = omega (arith, c.max-scaled.ensures) in
     ap (λ (x : ℕ). x / (a.lighter + a.heavier)) scaled
     ∙ sym (by-division a.lighter a.heavier a.n p.0 p.1 p.3)

@@ -1,17 +1,12 @@
-use mathlib.Core.Path.{sym, ◌∙◌}
-use Rattle.recording.proofs.Recordings.{sorted-step, sorted-stop, sorted-end}
+-- `recording::inner::is_sorted` meets its contract: the times of a recording are the first words of its fives, and each is compared with the next
+-- (`fives-sorted`).
+use Rattle.std.proofs.Common.{rules}
+use Rattle.std.proofs.lemmas.List.Sorted.{answers_always}
+use Rattle.recording.proofs.Chunks.{first_word, fives-sorted}
 use Rattle.recording.proofs.inner.is_sorted.Goals as goal
-
-pub returns-then-time-last : goal.returns-then-time-last
-returns-then-time-last c =
-    sym (c.loop-i.invariant
-    ∙ sorted-stop c.args.recording.now c.loop-i.last c.loop-i.i c.loop-i-test.true c.if-time-last.true)
-
-pub loop-i-preserved : goal.loop-i-preserved
-loop-i-preserved c =
-    c.loop-i.invariant
-    ∙ sorted-step c.args.recording.now c.loop-i.last c.loop-i.i c.loop-i-test.true c.if-time-last.false
 
 pub returns : goal.returns
 returns c =
-    sym (c.loop-i.invariant ∙ sorted-end c.args.recording.now c.loop-i.last c.loop-i.i c.loop-i-test.false)
+    let fives = c.as_chunks.ensures in
+    fives-sorted c.args.recording.now c.as_chunks.result.0.now fives.front fives.front_len c.is_sorted_by_key.result
+    (c.is_sorted_by_key.ensures.cases first_word (answers_always _ _ _ (λ f a r f' k. search rules)))

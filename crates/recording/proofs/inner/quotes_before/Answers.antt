@@ -1,26 +1,19 @@
-use Prim.Native.Nat.{◌+◌, ◌/◌, ◌-◌}
-use native.Mathlib.Omega.{arith}
-use Rattle.recording.specs.Recording.{quotes_of}
-use Rattle.recording.specs.Window.{before}
-use Rattle.recording.proofs.Recordings.{quotes-length}
-use Rattle.recording.proofs.Windows.{count_most, before-past, before-most}
+-- `recording::inner::quotes_before` meets its contract: in a sorted recording the first words of its fives do not fall (`fives-rise`), so the halving finds
+-- where those before the time end, which is how many they are (`fives-before`).
+use mathlib.Core.List.{List}
+use Prim.Native.Nat.{ℕ}
+use lib.Dec.{ltb}
+use Rattle.std.proofs.Common.{rules}
+use Rattle.std.proofs.lemmas.List.Sorted.{IsPartitionPoint-from_clause, IsPartitionedBy-ltb}
+use Rattle.recording.proofs.Chunks.{first_word, fives-rise, fives-before}
 use Rattle.recording.proofs.inner.quotes_before.Goals as goal
 
-pub loop-low-init : goal.loop-low-init
-loop-low-init c = omega (arith, count_most (before c.args.time) (quotes_of c.args.recording.now), quotes-length c.args.recording.now)
-
-pub loop-low-preserved-then-recording-middle : goal.loop-low-preserved-then-recording-middle
-loop-low-preserved-then-recording-middle c = (
-  before-past c.args.recording.now c.args.time (c.loop-low.low + (c.loop-low.high - c.loop-low.low) / 2) c.requires
-      (omega arith) c.if-recording-middle.true,
-  omega arith,
-  omega arith,
-)
-
-pub loop-low-preserved : goal.loop-low-preserved
-loop-low-preserved c = (
-  omega arith,
-  before-most c.args.recording.now c.args.time (c.loop-low.low + (c.loop-low.high - c.loop-low.low) / 2) c.requires
-      (omega arith) c.if-recording-middle.false,
-  omega arith,
-)
+pub returns : goal.returns
+returns c =
+    let fives = c.as_chunks.ensures in
+    let words = c.as_chunks.result.0.now in
+    let found = c.partition_point in
+    fives-before c.args.recording.now words fives.front fives.front_len c.args.time c.requires found.result found.ensures.bound
+    (IsPartitionPoint-from_clause (λ (five : List ℕ). ltb (first_word five) c.args.time) words found.result found.ensures.partitioned
+    (IsPartitionedBy-ltb first_word words c.args.time (fives-rise c.args.recording.now words fives.front fives.front_len c.requires))
+    (λ a r f' k. search rules))

@@ -1,0 +1,13 @@
+-- `fit_series::inner::multiply` meets its contract: the rows of the fours and the rest are all n rows, and each call answers those that it is given
+-- (`multiply_rows`), the second on what the first wrote. No loop.
+use Rattle.std.proofs.Common.{◌≡◌, ◌+◌, ◌*◌, ◌/◌, ◌%◌, arith}
+use Rattle.fit_linear.proofs.Parts.{filled_none}
+use Rattle.fit_series.proofs.inner.multiply.Goals as goal
+
+pub returns : goal.returns
+returns c =
+    let l = c.args.s.now in
+    let n = c.args.at.n in
+    let all : n / 4 * 4 + n % 4 * 1 ≡ n = omega arith in
+    let none : 0 + n / 4 * 4 ≡ n / 4 * 4 = omega arith in
+    rw all at (c.multiply_rows-2.ensures l (rw none at (c.multiply_rows.ensures l filled_none)))
