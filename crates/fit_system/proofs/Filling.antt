@@ -175,6 +175,23 @@ state-row C total x base u o is-u is-o l m e t f a long is-t is_f b =
     (rw is-u at is_f)
     (rw (is-u, is-o) at b)
 
+-- row x of a state with this mark, by its parts in the order of the code
+pub row-by-parts : (n least x o : ℕ) (mark : StateStatus) (stay moved : List ℕ) (totals : List ℤ) {l m e : List Float} {t f : Float}
+    → mark ≡ mark_of (cells_of n least stay moved) x
+    → o ≡ observations (cells_of n 0 stay moved) x
+    → Filled (x * width n) n (λ k. let q = part (is_calibrated mark) (pos (cell_at n stay x k)) o in cond (eqb x k) (sub binary64 one q) (neg q)) l m
+    → x * width n + width n ≤ length m
+    → t ≡ part (is_calibrated mark) (total_of totals x) o
+    → f ≡ cond (is_calibrated mark) pos_zero one
+    → Filled (x * width n + (n + 2)) n (λ k. part (is_calibrated mark) (pos (cell_at n moved x k)) o)
+    (set (set m (x * width n + n) t) (x * width n + (n + 1)) f) e
+    → Filled (x * width n) (width n) (system_of (cells_of n least stay moved) (total_of totals) x) l e
+row-by-parts n least x o mark stay moved totals {l} {m} {e} {t} {f} marked is-o left long is-t is_f right =
+    state-row (cells_of n least stay moved) (total_of totals) x (x * width n) (is_calibrated mark) o
+    (ap is_calibrated marked)
+    (is-o ∙ sym (any-least n least stay moved x))
+    l m e t f left (omega arith) is-t is_f right
+
 -- a part of a row whose cells are those of the table
 part-of-row : {base n : ℕ} (row : List ℕ) {v w : ℕ → Float} {l m : List Float} → length row ≡ n → ((k : ℕ) → k < n → v k ≡ w k)
     → Filled base (length row) v l m → Filled base n w l m
@@ -192,8 +209,8 @@ fallbacks : (u : Bool) (o : ℕ) → fallback_by (observed_in u o) ≡ cond u po
 fallbacks true o = refl
 fallbacks false o = refl
 
--- row x of a state with this mark, by its parts in the order of the code
-pub row-by-parts : (n least x : ℕ) (mark : StateStatus) (stay moved : List ℕ) (totals : List ℤ) (observed : Option ℕ) (stays moves : List ℕ)
+-- the same of the lists of its cells, which lie in the tables
+pub row-by-lists : (n least x : ℕ) (mark : StateStatus) (stay moved : List ℕ) (totals : List ℤ) (observed : Option ℕ) (stays moves : List ℕ)
     {l m e : List Float} {t f : Float}
     → RowExact n stay moved totals x
     → mark ≡ mark_of (cells_of n least stay moved) x
@@ -206,20 +223,17 @@ pub row-by-parts : (n least x : ℕ) (mark : StateStatus) (stay moved : List ℕ
     → f ≡ fallback_by observed
     → Filled (x * width n + (n + 2)) (length moves) (moved_part moves observed) (set (set m (x * width n + n) t) (x * width n + (n + 1)) f) e
     → Filled (x * width n) (width n) (system_of (cells_of n least stay moved) (total_of totals) x) l e
-row-by-parts n least x mark stay moved totals observed stays moves {l} {m} {e} {t} {f} exact marked is-o is-stay is-moved left long is-t is_f right =
+row-by-lists n least x mark stay moved totals observed stays moves {l} {m} {e} {t} {f} exact marked is-o is-stay is-moved left long is-t is_f right =
     let u = is_calibrated mark in
     let o = observations (cells_of n 0 stay moved) x in
     let p : (z : ℤ) → part_by observed z ≡ part u z o = λ z. ap (λ b. part_by b z) is-o ∙ parts u o z in
     let at-stay : (k : ℕ) → k < n → get_or stays k 0 ≡ cell_at n stay x k = λ k h. ap (λ r. get_or r k 0) is-stay ∙ row-at n stay x k h in
     let at-moved : (k : ℕ) → k < n → get_or moves k 0 ≡ cell_at n moved x k = λ k h. ap (λ r. get_or r k 0) is-moved ∙ row-at n moved x k h in
     let less : ℕ → Float → Float = λ k q. cond (eqb x k) (sub binary64 one q) (neg q) in
-    state-row (cells_of n least stay moved) (total_of totals) x (x * width n) u o
-    (ap is_calibrated marked)
-    (sym (any-least n least stay moved x))
-    l m e t f
+    row-by-parts n least x o mark stay moved totals marked refl
     (part-of-row stays (ap length is-stay ∙ length-row n stay x exact.stay-in)
     (λ k h. ap (λ c. less k (part_by observed (pos c))) (at-stay k h) ∙ ap (less k) (p (pos (cell_at n stay x k)))) left)
-    (omega arith)
+    long
     (is-t ∙ p (total_of totals x))
     (is_f ∙ ap fallback_by is-o ∙ fallbacks u o)
     (part-of-row moves (ap length is-moved ∙ length-row n moved x exact.moved_in)

@@ -60,7 +60,8 @@ fn fill_stay(cells: &[u64], x: usize, observed: Option<u64>, scratch: &mut [f64]
     }
 }
 
-// T of a row, by its moved cells, into as many places from `to` on.
+// T of a row, by its moved cells, into as many places from `to` on. Apart from `fill_stay`, which stores 1 − Q by the row's own place: they differ in no type or
+// constant.
 fn fill_moved(cells: &[u64], observed: Option<u64>, scratch: &mut [f64], to: usize)
     requires { AllExact cells.now × IfSome observed (λ o. o ≤ exact_whole) × (to + length cells.now ≤ length scratch.old) }
     ensures { Filled to (length cells.now) (moved_part cells.now observed) scratch.old scratch.new }

@@ -1,7 +1,7 @@
 -- `fit_system::FitTables::fill_row` meets its contract: row x of the system by its parts, (1 − Q) | K | fallback | T. No loop. The callees ask that row x lies
 -- in the tables and that its numbers are exact as floats (`row-exact`); every store is in scratch, since row x ends within it (`enough`). The way out: the
 -- parts
--- make the row, where the mark says whether it is used (`row-by-parts`).
+-- make the row, where the mark says whether it is used (`row-by-lists`).
 use native.Mathlib.Omega.{arith}
 use Prim.Native.Nat.{ℕ, ◌+◌, ◌*◌, ◌<◌, ◌≤◌}
 use mathlib.Core.List.{List}
@@ -10,7 +10,7 @@ use lib.ListN.{length, length-set}
 use Rattle.basics.proofs.Tests.{row_in}
 use Rattle.fit_series.specs.Inner.{width}
 use Rattle.fit_marking.proofs.Rows.{length-row}
-use Rattle.fit_system.proofs.Filling.{row-exact, row-by-parts}
+use Rattle.fit_system.proofs.Filling.{row-exact, row-by-lists}
 use Rattle.fit_system.proofs.FitTables.fill_row.Goals as goal
 
 -- row x ends within scratch
@@ -44,7 +44,7 @@ pub returns : goal.returns
 returns c least marked =
     let a = c.args in
     let t = a.self.now in
-    row-by-parts t.pairs.states least a.x a.mark t.pairs.stay.now t.pairs.moved.now t.move_half_ticks.now _ _ _
+    row-by-lists t.pairs.states least a.x a.mark t.pairs.stay.now t.pairs.moved.now t.move_half_ticks.now _ _ _
     (row-exact t.exact c.requires.0)
     marked
     c.used_observations-observed.ensures
