@@ -38,8 +38,8 @@ refused "set, which answers what it has set" $env 'return was;' 'return MICRO_PR
 refused "restore, which puts nothing back" $env '("ldmxcsr %0" : : "m"(was) : "memory")' '("" : : "m"(was) : "memory")'
 refused "no word of other machines" $env '#error "micro_price_env.h sets the control word of x86-64"' ''
 refused "less stack than is used" $header 'micro_price_calibrate     13120' 'micro_price_calibrate     13112'
-refused "more than twice the stack" $header 'micro_price_observe       264' 'micro_price_observe       530'
-refused "a function without its stack" $header ' *   micro_price_new           112
+refused "more than twice the stack" $header 'micro_price_observe       240' 'micro_price_observe       490'
+refused "a function without its stack" $header ' *   micro_price_new           128
 ' ''
 
 refused_names "a float instruction in observe" micro_price_observe micro_price_calibrate
