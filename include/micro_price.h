@@ -22,13 +22,13 @@
  *   micro_price_new           128
  *   micro_price_observe       240
  *   micro_price_save          2352
- *   micro_price_restore       2352
- *   micro_price_fit_counts    4584
+ *   micro_price_restore       2384
+ *   micro_price_fit_counts    4688
  *   micro_price_check_model   104
  *   micro_price_signal        160
  *   micro_price_window_of     48
- *   micro_price_calibrate     13120
- *   micro_price_replay        7152
+ *   micro_price_calibrate     13264
+ *   micro_price_replay        7136
  *
  * Words:
  *   config   5: tick, imbalance buckets n, spread states s, least observations, largest gap in ms. N = n * s states.

@@ -85,6 +85,8 @@ def contracts():
         crate, text = path.split("/")[1], open(path).read()
         for name, contract in heads(text):
             if not HELPERS.fullmatch(crate) or (crate, name) in ALSO: yield f"{crate}::{name}", contract, sources(text)
+        if HELPERS.fullmatch(crate): continue
+        for clause in re.findall(r"^ +ghost \w+ = \{(.*?)\};", without_comments(text), re.M | re.S): yield f"an impl of {crate}", clause, sources(text)
 
 def heads(text):
     """(function, its signature and contract), of each function with a contract: then the brace of its body has a line of its own."""

@@ -37,7 +37,7 @@ refused "set, which sets nothing" $env '    micro_price_env_restore(MICRO_PRICE_
 refused "set, which answers what it has set" $env 'return was;' 'return MICRO_PRICE_ENV_WORD;'
 refused "restore, which puts nothing back" $env '("ldmxcsr %0" : : "m"(was) : "memory")' '("" : : "m"(was) : "memory")'
 refused "no word of other machines" $env '#error "micro_price_env.h sets the control word of x86-64"' ''
-refused "less stack than is used" $header 'micro_price_calibrate     13120' 'micro_price_calibrate     13112'
+refused "less stack than is used" $header 'micro_price_calibrate     13264' 'micro_price_calibrate     13256'
 refused "more than twice the stack" $header 'micro_price_observe       240' 'micro_price_observe       490'
 refused "a function without its stack" $header ' *   micro_price_new           128
 ' ''

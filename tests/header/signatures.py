@@ -129,7 +129,7 @@ def numbers(tree):
     found = cases((tree / "crates/refusals/src/lib.rt").read_text(), "Refusal")
     found |= {name: each * constant(tree, file, inner) for name, file, inner, each in CONSTANTS}
     statuses = cases((tree / "crates/model/src/lib.rt").read_text(), "StateStatus")
-    sources = cases((tree / "crates/model_signals/src/inner.rt").read_text(), "SignalSource")
+    sources = cases((tree / "crates/model_signals/src/lib.rt").read_text(), "SignalSource")
     sources |= {name: number for name, number in statuses.items() if name != "CALIBRATED"}
     found |= {"STATUS_" + name: number for name, number in statuses.items()}
     found |= {"SOURCE_" + name: number for name, number in sources.items()}

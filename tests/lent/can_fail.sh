@@ -29,7 +29,7 @@ answer='
 fit='inner::fit_counts(*rec, tables, config, scratch, model)'
 window='let ends = recording::window_of(recording, start, end)?;'
 lengths='
-    inner::check_lengths(config, tables.view(), scratch.len(), model.len())?;'
+    fit::inner::check_lengths(config, tables.view(), scratch.len(), model.len())?;'
 part='
     let part = recording::inner::part_of(recording, ends);'
 evening='inner::count_and_fit(rec, tables, config, part, scratch, model)'
@@ -64,7 +64,7 @@ prints_else lent "calibrate_micro_price answers 15 to all" crates/evening/src/li
     $evening" "let Ok(ends) = recording::window_of(recording, start, end) else {
         return Err(Refusal::WindowBackward);
     };
-    if inner::check_lengths(config, tables.view(), scratch.len(), model.len()).is_ok() {
+    if fit::inner::check_lengths(config, tables.view(), scratch.len(), model.len()).is_ok() {
         let part = recording::inner::part_of(recording, ends);
         let _ = $evening;
     }

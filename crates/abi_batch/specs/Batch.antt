@@ -5,7 +5,7 @@ use Rattle.refusals.specs.Refusals.{number_of, check_number}
 use Rattle.tally.specs.Entries.{tables}
 use Rattle.tally.specs.Rules.{Memory}
 use Rattle.calibrator.specs.Record.{memory, Previous}
-use Rattle.evening.specs.declared.Counted.{Counted}
+use Rattle.recording.specs.declared.Recorded.{Recorded}
 use Rattle.history_replay.specs.declared.BadEncoding.{BadEncoding}
 use Rattle.refusals.specs.declared.Refusal.{Refusal}
 use Rattle.history.specs.Calls.{Call}
@@ -41,22 +41,22 @@ lent_evening answer rec stay moved totals model scratch invalid =
     }
 
 -- a fit's answer, or a refusal before it
-abbrev pub evening_number : Result Counted Refusal → ℕ
+abbrev pub evening_number : Result Recorded Refusal → ℕ
 evening_number (Ok d) = check_number d.answer
 evening_number (Err r) = number_of r
 
 -- the number of invalid quotes is written with a fit's answer, and only then
-abbrev pub invalid_after : Result Counted Refusal → ℕ → ℕ
+abbrev pub invalid_after : Result Recorded Refusal → ℕ → ℕ
 invalid_after (Ok d) invalid = d.invalid
 invalid_after (Err r) invalid = invalid
 
 -- quotes were counted: there is a fit's answer, or a quote stopped the count with 2 or 6
-abbrev pub has_counted : Result Counted Refusal → Bool
+abbrev pub has_counted : Result Recorded Refusal → Bool
 has_counted (Ok d) = true
 has_counted (Err r) = eqb (number_of r) 2 || eqb (number_of r) 6
 
 -- the record is written where quotes were counted, and only then
-abbrev pub record_after_evening : Result Counted Refusal → List ℕ → Memory Previous → List ℕ
+abbrev pub record_after_evening : Result Recorded Refusal → List ℕ → Memory Previous → List ℕ
 record_after_evening a w m = cond (has_counted a) (record_words_of m) w
 
 -- what the evening leaves of the record's words w and of the word for the number of invalid quotes

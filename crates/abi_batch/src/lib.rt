@@ -9,12 +9,12 @@ ghost use Rattle.abi_batch.specs.Batch.{lent_evening, evening_number, invalid_af
 
 use abi_encoding::BAD_ENCODING;
 use calibrator::Record;
-use evening::Counted;
+use recording::Recorded;
 use refusals::Refusal;
 use tally::LentTables;
 
 // An evening's answer as a number; with a fit's answer the number of invalid quotes is written.
-fn put_invalid(answer: Result<Counted, Refusal>, invalid: &mut u64) -> u64
+fn put_invalid(answer: Result<Recorded, Refusal>, invalid: &mut u64) -> u64
     ensures { (result ≡ evening_number answer) × (invalid.new ≡ invalid_after answer invalid.old) }
 {
     match answer {
@@ -27,7 +27,7 @@ fn put_invalid(answer: Result<Counted, Refusal>, invalid: &mut u64) -> u64
 }
 
 // Whether quotes were counted: there is a fit's answer, or a quote stopped the count.
-fn has_counted(answer: Result<Counted, Refusal>) -> bool
+fn has_counted(answer: Result<Recorded, Refusal>) -> bool
     ensures { result ≡ has_counted answer }
 {
     match answer {
@@ -37,7 +37,7 @@ fn has_counted(answer: Result<Counted, Refusal>) -> bool
 }
 
 // Writes the record where quotes were counted. Its caller has as many words.
-fn put_counted(rec: &mut [u64], answer: Result<Counted, Refusal>, next: Record)
+fn put_counted(rec: &mut [u64], answer: Result<Recorded, Refusal>, next: Record)
     requires { length rec.old ≡ record_length }
     ensures { rec.new ≡ record_after_evening answer rec.old (memory next [] [] []) }
 {

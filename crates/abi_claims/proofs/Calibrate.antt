@@ -13,7 +13,7 @@ use Rattle.basics.specs.Lists.{any}
 use Rattle.basics.proofs.Tests.{fails}
 use Rattle.refusals.specs.Refusals.{number_of, check_number, Check}
 use Rattle.std.specs.Prelude.{Result, Ok, Err}
-use Rattle.evening.specs.declared.Counted.{Counted}
+use Rattle.recording.specs.declared.Recorded.{Recorded}
 use Rattle.refusals.specs.declared.Refusal.{Refusal}
 use Rattle.config.specs.declared.MicroPriceConfig.{MicroPriceConfig}
 use Rattle.quotes.specs.declared.TopOfBook.{TopOfBook}
@@ -41,7 +41,7 @@ module _ (d : MicroPriceConfig) (w s m : List ℕ) (t : List ℤ) (qs : List Top
   abbrev before : Memory Previous
   before = memory (record_of w) s m t
 
-  evening-kept : (o : EveningOutcome) → EveningHistory d before qs model scratch o → (a : Result Counted Refusal) → o.answer ≡ a
+  evening-kept : (o : EveningOutcome) → EveningHistory d before qs model scratch o → (a : Result Recorded Refusal) → o.answer ≡ a
       → is_unwritten (evening_number a) ≡ true → of_evening w invalid o ≡ lent_evening (evening_number a) w s m t model scratch invalid
   evening-kept o E (Ok k) is u = absurd (true≢false (sym u ∙ go k.answer (E.fitted k is).fit-numbers))
     where

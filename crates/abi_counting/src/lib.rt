@@ -1,6 +1,6 @@
 // Document 01's configuration, new and quote for callers in C and Rust: numbers and lent slices alone. include/micro_price.h says how they are called.
-// The words of a configuration and of a record are those of specs/Encoding.antt of `abi_encoding`; others are answered with BAD_ENCODING before all else, but new
-// takes any words of the right number for the record that it overwrites. Every other answer is 0 or the number of a refusal.
+// The words of a configuration and of a record are those of specs/Encoding.antt of `abi_encoding`; others are answered with BAD_ENCODING before all else, but
+// new takes any words of the right number for the record that it overwrites. Every other answer is 0 or the number of a refusal.
 #![tactic(auto)]
 
 ghost use Rattle.std.specs.Prelude.{◌≡◌, length};

@@ -8,7 +8,7 @@ ghost use Rattle.abi_encoding.specs.Encoding.{record_length, record_words_of, re
 use calibrator::{Counters, Record};
 use quotes::TopOfBook;
 
-// What an exported operation answers to words that are no configuration or no record.
+// What an exported operation answers to words that are no configuration or no record: a number of the header, not of a refusal.
 pub const BAD_ENCODING: u64 = 100;
 
 // How many words a record has.
@@ -38,18 +38,13 @@ pub fn is_encoded(config: &[u64], rec: &[u64]) -> bool
     (config.len() == config::inner::CONFIG_WORDS) & is_record(rec)
 }
 
-// The record that words hold, whatever they are. Read by index: a pattern of ten names says no more plainly which word is which.
+// The record that words hold, whatever they are, each named once. No `From<[u64; 10]>`: the exported functions are lent slices. Apart from a header's record,
+// whose words stand among others.
 pub fn record_of(w: &[u64]) -> Record
     requires { length w.now ≡ record_length }
     ensures { result ≡ record_of w.now }
 {
-    let quote = TopOfBook {
-        timestamp_ms: w[1],
-        bid: w[2],
-        ask: w[3],
-        bid_size: w[4],
-        ask_size: w[5],
-    };
+    let quote = TopOfBook::from([w[1], w[2], w[3], w[4], w[5]]);
     let counters = Counters {
         pairs: w[6],
         skipped_spread_pairs: w[7],
@@ -62,7 +57,7 @@ pub fn record_of(w: &[u64]) -> Record
     }
 }
 
-// Writes the words of a record.
+// Writes the words of a record. Not `&mut [u64; 10]`: by `as_mut_array` each exported function has a second way out with BAD_ENCODING, and a longer proof.
 pub fn put_record(w: &mut [u64], rec: Record)
     requires { length w.old ≡ record_length }
     ensures { w.new ≡ record_words_of (memory rec [] [] []) }

@@ -1,6 +1,6 @@
 // Document 01's save and restore for callers in C and Rust: numbers and lent slices alone. include/micro_price.h says how they are called.
-// Words that are no configuration or no record are answered with BAD_ENCODING before all else, but restore takes any words of the right lengths for those that it
-// overwrites. Every other answer is 0 or the number of a refusal.
+// Words that are no configuration or no record are answered with BAD_ENCODING before all else, but restore takes any words of the right lengths for those that
+// it overwrites. Every other answer is 0 or the number of a refusal.
 #![tactic(auto)]
 
 ghost use Rattle.std.specs.Prelude.{◌≡◌, true, length};

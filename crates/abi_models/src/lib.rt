@@ -37,7 +37,7 @@ pub extern "C" fn micro_price_check_model(config: &[u64], model: &[u64], row: &m
     }
 }
 
-// Time, bid + ask, the bits of the adjustment, source.
+// Time, bid + ask, the bits of the adjustment, source. No `From`: the signal is of another crate.
 fn put_signal(out: &mut [u64], s: MicroPriceSignal)
     requires { length out.old ≡ signal_length }
     ensures { out.new ≡ sent_words s }
@@ -46,7 +46,7 @@ fn put_signal(out: &mut [u64], s: MicroPriceSignal)
         s.timestamp_ms,
         s.mid_sum,
         floats::to_bits(s.adjustment),
-        model_signals::inner::source_number(s.source),
+        u64::from(s.source),
     ];
     out.copy_from_slice(&words);
 }

@@ -59,10 +59,6 @@ abbrev pub unless_refused : Check → Record → Result Record Refusal
 unless_refused (Ok _) r = Ok r
 unless_refused (Err x) r = Err x
 
-abbrev pub no_counters : Counters
-no_counters =
-    record { pairs = 0; skipped_spread_pairs = 0; skipped_gap_pairs = 0; largest_move_half_ticks = 0 }
-
 abbrev pub entry_of : Pair → PairEntry
 entry_of p =
     record {

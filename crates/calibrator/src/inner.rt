@@ -12,7 +12,7 @@ ghost use Rattle.tally.specs.Events.{skip};
 ghost use Rattle.tally.specs.Lent.{tables_of, tables_in, SameSlices};
 ghost use Rattle.calibrator.specs.Record.{memory_with, kind_of, left_by};
 ghost use Rattle.calibrator.specs.declared.Record.{Record};
-ghost use Rattle.calibrator.specs.Inner.{skip_count, add_skip, add_pair, accepted, unless_refused, no_counters, entry_of, Countable, judge_pair, counted_as};
+ghost use Rattle.calibrator.specs.Inner.{skip_count, add_skip, add_pair, accepted, unless_refused, entry_of, Countable, judge_pair, counted_as};
 ghost use Rattle.calibrator.specs.Observe.{event_from, lent_wrong, check_lent, made, observed};
 
 use super::{Counters, Record};
@@ -131,7 +131,8 @@ fn skip_pair(
     Err(Refusal::CountLimit)
 }
 
-// Counts two neighbours that are a pair.
+// Counts two neighbours that are a pair. The tables' lengths are a clause: a struct of tables and configuration would be made anew in each operation, after
+// refusal 7.
 fn count_pair(
     rec: Record,
     tables: &mut LentTables<'_>,
@@ -204,18 +205,6 @@ pub fn observe(
     next_quote(rec, tables, config, last, quote)
 }
 
-// Counters of a new calibrator.
-pub fn no_counters() -> Counters
-    ensures { result ≡ no_counters }
-{
-    Counters {
-        pairs: 0,
-        skipped_spread_pairs: 0,
-        skipped_gap_pairs: 0,
-        largest_move_half_ticks: 0,
-    }
-}
-
 // The work of `new`: the record of a new calibrator.
 pub fn new(tables: &mut LentTables<'_>, config: MicroPriceConfig) -> Result<Record, Refusal>
     ensures left { (rec : Record) → left_by rec result (tables_of tables.new) ≡ made config (memory_with rec (tables_of tables.old)) }
@@ -225,8 +214,5 @@ pub fn new(tables: &mut LentTables<'_>, config: MicroPriceConfig) -> Result<Reco
     tables.stay.fill(0);
     tables.moved.fill(0);
     tables.move_half_ticks.fill(0);
-    Ok(Record {
-        previous: None,
-        counters: no_counters(),
-    })
+    Ok(Record::default())
 }

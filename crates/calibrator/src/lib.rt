@@ -13,7 +13,7 @@ ghost use Rattle.tally.specs.Lent.{tables_of, SameSlices};
 ghost use Rattle.calibrator.specs.Record.{memory_with, leaves};
 ghost use Rattle.calibrator.specs.Observe.{made, observed};
 
-#[derive(Clone, Copy)]
+#[derive(Clone, Copy, Default)]
 pub struct Counters {
     // Pairs counted, mirrors not included.
     pub pairs: u64,
@@ -25,13 +25,15 @@ pub struct Counters {
     pub largest_move_half_ticks: u64,
 }
 
-// What a calibrator keeps beside its tables.
-#[derive(Clone, Copy)]
+// What a calibrator keeps beside its tables; by default a new one's.
+#[derive(Clone, Copy, Default)]
 pub struct Record {
     // The last quote, if any.
     pub previous: Option<TopOfBook>,
     pub counters: Counters,
 }
+
+// Record and tables are lent, each by itself: that is document 01's form of an operation. So the configuration travels beside them.
 
 // Empties the record and zeroes the three tables.
 pub fn new(

@@ -4,10 +4,10 @@
 
 ghost use Rattle.std.specs.Prelude.{◌≤◌};
 
-// A byte more than the longest text that is no bad input has.
+// A byte more than the longest text that is no bad input has, as `evening_main` has it: each program has its own room.
 const TEXT_BYTES: usize = 105129;
 
-// The text of a case, as far as its lines are read.
+// The text of a case, as far as its lines are read. Bytes with their length: no heap, so no `Vec`.
 #[derive(Drop)]
 struct Text {
     bytes: [u8; TEXT_BYTES],
@@ -37,7 +37,8 @@ fn meant(b: u8) -> u8 {
     }
 }
 
-// The number at the beginning of a line, up to its first space. No case has more than six digits.
+// The number at the beginning of a line, up to its first space. No case has more than six digits. No `parse`: that takes a `&str`.
+// Apart from `number_of` of `cases_shared`, of 19 digits: this number is how often a text is repeated.
 fn count_of(line: &[u8]) -> u64 {
     line.iter()
         .take_while(|b| **b != b' ')
@@ -70,6 +71,7 @@ fn run_line(rt: &impl Print, line: &[u8], text: &mut Text) {
     }
 }
 
+// Beside `answer` of `evening_main`, which says on standard error that a write failed.
 fn show(rt: &impl Print, text: &[u8]) {
     let mut out = [0; program_report::MOST_BYTES];
     let n = program_report::evening_text(text, &mut out);

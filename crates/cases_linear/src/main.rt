@@ -131,7 +131,8 @@ fn minus_zero(n: u64, r: u64, k: u64) -> f64
     }
 }
 
-// A cell of the system of a kind.
+// A cell of the system of a kind. Kind, n, row and column stay parameters, and the bounds clauses: of a struct of bytes each function would turn them into
+// words first.
 fn cell(kind: Kind, n: u64, r: u64, k: u64) -> f64
     requires { (n < 32) × (r < 32) × (k < 64) }
 {
@@ -158,7 +159,7 @@ fn fill(s: &mut [f64], kind: Kind, n: u64, w: usize)
     }
 }
 
-// The bits of the floats from `start` up to `end`, each on a line.
+// The bits of the floats from `start` up to `end`, each on a line. By places: a part `&s[a..b]` would ask each caller that it lies in the slice.
 fn show(rt: &impl Print, s: &[f64], start: usize, end: usize) {
     for x in s.iter().take(end).skip(start) {
         let bits = floats::to_bits(*x);

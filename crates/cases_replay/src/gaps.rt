@@ -1,6 +1,5 @@
 // Document 02, Q-5: the default largest gap, and the gap that an image carries. Tick 1, n 3, s 2, least observations 1; a quote, and the same quote again
 // after a pause. Each line has the largest gap, the pause, and then the pairs and the gap skips.
-use crate::empty;
 use calibrator::Record;
 use config::MicroPriceConfig;
 use quotes::TopOfBook;
@@ -31,47 +30,42 @@ fn by_default() -> MicroPriceConfig {
 
 // A new calibrator's record after its first quote.
 fn after_first(tables: &mut LentTables<'_>, config: MicroPriceConfig) -> Record {
-    let mut rec = empty();
+    let mut rec = Record::default();
     let _ = calibrator::new(&mut rec, tables, config);
     let _ = calibrator::observe(&mut rec, tables, config, quote_at(0));
     rec
 }
 
 // The pause under the default gap.
-fn show_default(rt: &impl Print, pause: u64) {
-    let mut stay = [0; 36];
-    let mut moved = [0; 36];
-    let mut move_half_ticks = [0; 6];
-    let mut tables = LentTables {
-        stay: &mut stay,
-        moved: &mut moved,
-        move_half_ticks: &mut move_half_ticks,
-    };
+fn show_default(rt: &impl Print, tables: &mut LentTables<'_>, pause: u64) {
     let config = by_default();
-    let mut rec = after_first(&mut tables, config);
-    let _ = calibrator::observe(&mut rec, &mut tables, config, quote_at(pause));
+    let mut rec = after_first(tables, config);
+    let _ = calibrator::observe(&mut rec, tables, config, quote_at(pause));
     show_line(rt, config, pause, rec);
 }
 
 // The image of a calibrator under a gap of 60,000, after its first quote.
-fn saved() -> [u8; 784] {
-    let mut stay = [0; 36];
-    let mut moved = [0; 36];
-    let mut move_half_ticks = [0; 6];
-    let mut tables = LentTables {
-        stay: &mut stay,
-        moved: &mut moved,
-        move_half_ticks: &mut move_half_ticks,
-    };
+fn saved(tables: &mut LentTables<'_>) -> [u8; 784] {
     let config = by_default().with_max_quote_gap_ms(60_000);
-    let rec = after_first(&mut tables, config);
+    let rec = after_first(tables, config);
     let mut out = [0; 784];
     let _ = image::save(&rec, tables.view(), config, &mut out);
     out
 }
 
 // The pause under the gap that restore answers, of that image with this gap in its word 5.
-fn show_carried(rt: &impl Print, gap: u64, pause: u64) {
+fn show_carried(rt: &impl Print, tables: &mut LentTables<'_>, gap: u64, pause: u64) {
+    let mut image = saved(tables);
+    image_words::put_word(&mut image, 40, gap);
+    let mut rec = Record::default();
+    if let Ok(config) = image::restore(&mut rec, &image, tables) {
+        let _ = calibrator::observe(&mut rec, tables, config, quote_at(pause));
+        show_line(rt, config, pause, rec);
+    }
+}
+
+// All in one memory: new empties it.
+pub fn show_all(rt: &impl Print) {
     let mut stay = [0; 36];
     let mut moved = [0; 36];
     let mut move_half_ticks = [0; 6];
@@ -80,18 +74,8 @@ fn show_carried(rt: &impl Print, gap: u64, pause: u64) {
         moved: &mut moved,
         move_half_ticks: &mut move_half_ticks,
     };
-    let mut image = saved();
-    image_words::put_word(&mut image, 40, gap);
-    let mut rec = empty();
-    if let Ok(config) = image::restore(&mut rec, &image, &mut tables) {
-        let _ = calibrator::observe(&mut rec, &mut tables, config, quote_at(pause));
-        show_line(rt, config, pause, rec);
-    }
-}
-
-pub fn show_all(rt: &impl Print) {
-    show_default(rt, 5_000);
-    show_default(rt, 5_001);
-    show_carried(rt, 60_000, 6_000);
-    show_carried(rt, 5_000, 6_000);
+    show_default(rt, &mut tables, 5_000);
+    show_default(rt, &mut tables, 5_001);
+    show_carried(rt, &mut tables, 60_000, 6_000);
+    show_carried(rt, &mut tables, 5_000, 6_000);
 }

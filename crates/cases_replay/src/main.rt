@@ -1,5 +1,5 @@
-// Replays a list that saves, counts on, restores, is refused and goes on; a restore of another configuration is left out. Prints each answer, then the words of the two images that it saved.
-// Then a list with a call of no kind, which is not replayed, and calibrators under the default gap and under the gap of an image.
+// Replays a list that saves, counts on, restores, is refused and goes on; a restore of another configuration is left out. Prints each answer, then the words of
+// the two images that it saved. Then a list with a call of no kind, which is not replayed, and calibrators under the default gap and under the gap of an image.
 #![tactic(auto)]
 
 ghost use Rattle.std.specs.Prelude.{◌≡◌};
@@ -35,13 +35,6 @@ fn journal() -> [u64; 102]
     JOURNAL
 }
 
-fn empty() -> Record {
-    Record {
-        previous: None,
-        counters: calibrator::inner::no_counters(),
-    }
-}
-
 // The words of the image of a new calibrator with a gap of 2000.
 fn other_image() -> [u64; 41] {
     let other = setup().with_max_quote_gap_ms(2000);
@@ -51,7 +44,7 @@ fn other_image() -> [u64; 41] {
         move_half_ticks: &[0; 3],
     };
     let mut out = [0; 328];
-    let _ = image::save(&empty(), tables, other, &mut out);
+    let _ = image::save(&Record::default(), tables, other, &mut out);
     let mut words = [0; 41];
     image_words::get_table(&out, 0, &mut words);
     words
@@ -87,7 +80,7 @@ fn main(rt: HostRuntime) {
     let mut words = [0; 82];
     image_words::put_table(&mut room, 656, &other_image());
     let calls = journal();
-    let mut rec = empty();
+    let mut rec = Record::default();
     let _ = calibrator::new(&mut rec, &mut tables, setup());
     let end = history_replay::replay(
         &mut rec,

@@ -1,20 +1,63 @@
 // Runs the cases on standard input and prints the answer to each. The input and the expected output are tests/comparison/sample_words.txt and sample.expected,
-// whose form tests/comparison/make_sample.sh describes. Where a function has a `requires`, each caller proves it.
+// whose form tests/comparison/make_sample.sh describes.
 #![tactic(auto)]
 
 ghost use Rattle.std.specs.Prelude.{◌≤◌};
 
 use calibrator::Record;
-use cases_shared::reading::{config_of, count_at, read_full, word_at};
+use cases_shared::reading::{config_of, count_at, parts_at, read_full, word_at};
 use cases_shared::showing::{show, show_after, show_all, show_before};
 use cases_shared::tables::record_of;
 use config::MicroPriceConfig;
-use evening::Counted;
 use image::Restored;
+use quotes::TopOfBook;
+use recording::Recorded;
 use refusals::Refusal;
 use tally::{LentTables, TablesView};
 
 mod models;
+
+// As many words of a line are read.
+const MOST_WORDS: usize = 2200;
+
+// A case, by its word 0.
+enum Case {
+    Validate,
+    OnTables(TablesCase),
+    OnModel(ModelCase),
+    Window,
+    Made,
+}
+
+// A case that begins on zero tables. An enum, and no closure for each: they are lent different parts of the memory.
+#[derive(Clone, Copy)]
+enum TablesCase {
+    New,
+    Restore,
+    Fit,
+    Evening,
+}
+
+// A case that reads a model.
+#[derive(Clone, Copy)]
+enum ModelCase {
+    Check,
+    Signals,
+}
+
+fn case_of(word: u64) -> Case {
+    match word {
+        1 => Case::Validate,
+        2 => Case::OnTables(TablesCase::New),
+        3 => Case::OnTables(TablesCase::Restore),
+        4 => Case::OnTables(TablesCase::Fit),
+        5 => Case::OnModel(ModelCase::Check),
+        6 => Case::OnModel(ModelCase::Signals),
+        7 => Case::Window,
+        9 => Case::Made,
+        _ => Case::OnTables(TablesCase::Evening),
+    }
+}
 
 // ---- case 9
 
@@ -29,31 +72,31 @@ fn show_made(rt: &impl Print, words: &[u64]) {
 
 // ---- cases 5, 6 and 7
 
-fn run_models(rt: &impl Print, words: &[u64]) {
-    let mut model = [0; 105];
+// There is room for 15 rows.
+fn run_model(rt: &impl Print, case: ModelCase, words: &[u64]) {
+    let mut room = [0; 105];
     let rows = (word_at(words, 6) % 16) as usize;
-    models::put_model(words, rows, &mut model);
+    let model = &mut room[..7 * rows];
+    models::put_model(words, model);
     let config = config_of(words);
-    if word_at(words, 0) == 5 {
-        models::show_check(rt, config, &model[..7 * rows]);
-    } else {
-        models::show_signals(rt, config, &model[..7 * rows], words, 7 + 10 * rows);
+    match case {
+        ModelCase::Check => models::show_check(rt, config, model),
+        ModelCase::Signals => models::show_signals(rt, config, model, words, 7 + 10 * rows),
     }
 }
 
 fn run_window(rt: &impl Print, words: &[u64]) {
-    let past = 4 + 5 * count_at(words, 3);
-    if past <= words.len() {
-        let start = word_at(words, 1);
-        let end = word_at(words, 2);
-        match recording::window_of(&words[4..past], start, end) {
-            Ok(ends) => {
-                show(rt, 0);
-                show_after(rt, ends.first as u64);
-                show_after(rt, ends.past as u64);
-            }
-            Err(refusal) => show(rt, refusal.number()),
+    let recording = parts_at::<5>(words, 3).as_flattened();
+    if MOST_WORDS - 4 < recording.len() {
+        return;
+    }
+    match recording::window_of(recording, word_at(words, 1), word_at(words, 2)) {
+        Ok(ends) => {
+            show(rt, 0);
+            show_after(rt, ends.first as u64);
+            show_after(rt, ends.past as u64);
         }
+        Err(refusal) => show(rt, refusal.number()),
     }
 }
 
@@ -70,26 +113,24 @@ fn show_record(rt: &impl Print, rec: Record) {
 fn show_quotes(
     rt: &impl Print,
     mut rec: Record,
-    n: usize,
+    n: u8,
     tables: &mut LentTables<'_>,
     config: MicroPriceConfig,
     words: &[u64],
     at: usize,
-)
-    requires { at ≤ 4200 }
-{
-    for i in 0..count_at(words, at) {
-        let quote = cases_shared::reading::quote_at(words, at + 1 + 5 * i);
+) {
+    for quote in parts_at(words, at) {
+        let quote = TopOfBook::from(*quote);
         let answer = calibrator::observe(&mut rec, tables, config, quote);
         show_before(rt, refusals::check_number(answer));
     }
     show_record(rt, rec);
-    cases_shared::showing::show_entries(rt, n, tables.view());
+    cases_shared::showing::show_entries(rt, usize::from(n), tables.view());
 }
 
-fn run_new(rt: &impl Print, words: &[u64], n: usize, tables: &mut LentTables<'_>) {
+fn run_new(rt: &impl Print, words: &[u64], n: u8, tables: &mut LentTables<'_>) {
     let config = config_of(words);
-    let mut rec = record_of(0);
+    let mut rec = Record::default();
     let _ = calibrator::new(&mut rec, tables, config);
     show_quotes(rt, rec, n, tables, config, words, 6);
 }
@@ -108,7 +149,7 @@ fn restore(
 fn restore_and_quote(
     rt: &impl Print,
     words: &[u64],
-    n: usize,
+    n: u8,
     bytes: &[u8],
     tables: &mut LentTables<'_>,
 ) {
@@ -123,24 +164,14 @@ fn restore_and_quote(
 }
 
 // Fills the tables, writes their image, and restores it.
-fn run_image(
-    rt: &impl Print,
-    words: &[u64],
-    n: usize,
-    bytes: &mut [u8],
-    tables: &mut LentTables<'_>,
-)
-    requires { n ≤ 255 }
-{
+fn run_image(rt: &impl Print, words: &[u64], n: u8, bytes: &mut [u8], tables: &mut LentTables<'_>) {
     cases_shared::tables::fill(words, 16, n, tables);
     cases_shared::tables::put_image(words, n, tables.view(), bytes);
     restore_and_quote(rt, words, n, bytes, tables);
 }
 
 // There is room for an image of 27 states.
-fn run_restore(rt: &impl Print, words: &[u64], n: usize, tables: &mut LentTables<'_>)
-    requires { n ≤ 255 }
-{
+fn run_restore(rt: &impl Print, words: &[u64], n: u8, tables: &mut LentTables<'_>) {
     let mut image = [0; 12040];
     let size = cases_shared::tables::image_length(n);
     if size <= 12040 {
@@ -158,13 +189,11 @@ fn show_table(rt: &impl Print, answer: Result<(), Refusal>, model: &[u64]) {
 fn run_fit(
     rt: &impl Print,
     words: &[u64],
-    n: usize,
+    n: u8,
     tables: &mut LentTables<'_>,
     scratch: &mut [f64],
     model: &mut [u64],
-)
-    requires { n ≤ 255 }
-{
+) {
     cases_shared::tables::fill(words, 7, n, tables);
     let rec = record_of(word_at(words, 6));
     let answer = fit::fit_counts(&rec, tables.view(), config_of(words), scratch, model);
@@ -175,9 +204,9 @@ fn run_fit(
 // The answer of an evening, and the calibrator and the table that it leaves.
 fn show_evening(
     rt: &impl Print,
-    answer: Result<Counted, Refusal>,
+    answer: Result<Recorded, Refusal>,
     rec: Record,
-    n: usize,
+    n: u8,
     tables: TablesView<'_>,
     model: &[u64],
 ) {
@@ -186,7 +215,7 @@ fn show_evening(
             show_before(rt, refusals::check_number(counted.answer));
             show_before(rt, counted.invalid);
             show_record(rt, rec);
-            cases_shared::showing::show_entries(rt, n, tables);
+            cases_shared::showing::show_entries(rt, usize::from(n), tables);
             show_table(rt, counted.answer, model);
         }
         Err(refusal) => show(rt, refusal.number()),
@@ -196,90 +225,101 @@ fn show_evening(
 fn run_evening(
     rt: &impl Print,
     words: &[u64],
-    n: usize,
+    n: u8,
     tables: &mut LentTables<'_>,
     scratch: &mut [f64],
     model: &mut [u64],
 ) {
-    let past = 9 + 5 * count_at(words, 8);
-    if past <= words.len() {
-        let mut rec = record_of(0);
-        let answer = evening::calibrate_micro_price(
-            &mut rec,
-            tables,
-            config_of(words),
-            &words[9..past],
-            word_at(words, 6),
-            word_at(words, 7),
-            scratch,
-            model,
-        );
-        show_evening(rt, answer, rec, n, tables.view(), model);
+    let recording = parts_at::<5>(words, 8).as_flattened();
+    if MOST_WORDS - 9 < recording.len() {
+        return;
     }
+    let mut rec = Record::default();
+    let answer = evening::calibrate_micro_price(
+        &mut rec,
+        tables,
+        config_of(words),
+        recording,
+        word_at(words, 6),
+        word_at(words, 7),
+        scratch,
+        model,
+    );
+    show_evening(rt, answer, rec, n, tables.view(), model);
 }
 
-// Runs a case on zero tables of n states.
+// Runs a case on zero tables of n states. Memory is lent to each case as it is to an operation, beside the words and
+// n, which are the case's.
 fn run_on(
     rt: &impl Print,
+    case: TablesCase,
     words: &[u64],
-    n: usize,
+    n: u8,
     tables: &mut LentTables<'_>,
     scratch: &mut [f64],
     model: &mut [u64],
-)
-    requires { n ≤ 255 }
-{
-    match word_at(words, 0) {
-        2 => run_new(rt, words, n, tables),
-        3 => run_restore(rt, words, n, tables),
-        4 => run_fit(rt, words, n, tables, scratch, model),
-        _ => run_evening(rt, words, n, tables, scratch, model),
+) {
+    match case {
+        TablesCase::New => run_new(rt, words, n, tables),
+        TablesCase::Restore => run_restore(rt, words, n, tables),
+        TablesCase::Fit => run_fit(rt, words, n, tables, scratch, model),
+        TablesCase::Evening => run_evening(rt, words, n, tables, scratch, model),
     }
 }
 
+// The floats that a fit of n states asks for: `fit` judges that number, and has no function that makes it. The rooms are fixed (no heap), and each program has
+// its own.
+fn scratch_length(n: u8) -> usize
+    ensures { result ≤ 132600 }
+{
+    let n = usize::from(n);
+    n * (2 * n + 10)
+}
+
 // There is room for 255 states.
-fn run_tables(rt: &impl Print, words: &[u64]) {
+fn run_tables(rt: &impl Print, case: TablesCase, words: &[u64]) {
     let mut stay = [0; 65025];
     let mut moved = [0; 65025];
     let mut move_half_ticks = [0; 255];
     let mut scratch = [0.0; 132600];
     let mut model = [0; 1785];
     let n = cases_shared::tables::states_of(words);
-    let cells = cases_shared::tables::product(n, n);
-    let floats = cases_shared::tables::product(n, 2 * n + 10);
+    let states = usize::from(n);
+    let cells = cases_shared::tables::cell_count(n);
+    let floats = scratch_length(n);
     let mut tables = LentTables {
         stay: &mut stay[..cells],
         moved: &mut moved[..cells],
-        move_half_ticks: &mut move_half_ticks[..n],
+        move_half_ticks: &mut move_half_ticks[..states],
     };
     run_on(
         rt,
+        case,
         words,
         n,
         &mut tables,
         &mut scratch[..floats],
-        &mut model[..7 * n],
+        &mut model[..7 * states],
     );
 }
 
 // ---- all cases
 
 fn run_case(rt: &impl Print, words: &[u64]) {
-    // A word of the case's text, matched once.
-    match word_at(words, 0) {
-        1 => show(rt, refusals::check_number(config_of(words).validate())),
-        5 | 6 => run_models(rt, words),
-        7 => run_window(rt, words),
-        9 => show_made(rt, words),
-        _ => run_tables(rt, words),
+    match case_of(word_at(words, 0)) {
+        Case::Validate => show(rt, refusals::check_number(config_of(words).validate())),
+        Case::OnTables(case) => run_tables(rt, case, words),
+        Case::OnModel(case) => run_model(rt, case, words),
+        Case::Window => run_window(rt, words),
+        Case::Made => show_made(rt, words),
     }
     let _ = rt.println("");
 }
 
-// Runs the case of a line; there is room for the longest.
+// Runs the case of a line. Behind its words there is room for as many parts as any number says, which are zeros.
 fn run(rt: &impl Print, line: &[u8]) {
-    let mut words = [0; 2200];
-    cases_shared::reading::read_line(line, &mut words);
+    let mut words = [0; 10000];
+    cases_shared::reading::read_line(line, &mut words[..MOST_WORDS]);
     run_case(rt, &words);
 }
 

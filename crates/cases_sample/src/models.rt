@@ -1,47 +1,46 @@
-// The model of cases 5 and 6, and signals. Where a function has a `requires`, each caller proves it.
-ghost use Rattle.std.specs.Prelude.{◌≤◌};
-
-use cases_shared::reading::{set_at, word_at};
+// The model of cases 5 and 6, and signals.
+use cases_shared::reading::parts_at;
 use cases_shared::showing::{show, show_after};
 use config::MicroPriceConfig;
 use model_signals::MicroPriceSignal;
+use quotes::TopOfBook;
 use refusals::Refusal;
 
-// Writes the float whose upper and lower half are two words of a case.
-fn put_float(words: &[u64], from: usize, model: &mut [u64], to: usize)
-    requires { from ≤ 65536 }
-{
-    let upper = word_at(words, from) % 4294967296;
-    let lower = word_at(words, from + 1) % 4294967296;
-    set_at(model, to, upper * 4294967296 + lower);
+// The bits of a float, of its upper and lower half in two words of a case.
+fn float_bits(upper: u64, lower: u64) -> u64 {
+    upper % 4294967296 * 4294967296 + lower % 4294967296
 }
 
-// Writes the three floats of a row from six words of a case.
-fn put_floats(words: &[u64], from: usize, model: &mut [u64], to: usize)
-    requires { (from ≤ 4096) × (to ≤ 4096) }
-{
-    put_float(words, from, model, to);
-    put_float(words, from + 2, model, to + 1);
-    put_float(words, from + 4, model, to + 2);
+// The seven words of a row, which has ten in a case.
+fn row_of(words: &[u64; 10]) -> [u64; 7] {
+    let [
+        bucket,
+        spread,
+        observations,
+        first_upper,
+        first_lower,
+        adjustment_upper,
+        adjustment_lower,
+        share_upper,
+        share_lower,
+        status,
+    ] = *words;
+    [
+        bucket,
+        spread,
+        observations,
+        float_bits(first_upper, first_lower),
+        float_bits(adjustment_upper, adjustment_lower),
+        float_bits(share_upper, share_lower),
+        status,
+    ]
 }
 
-// Writes the seven words of a row from ten words of a case.
-fn put_row(words: &[u64], from: usize, model: &mut [u64], to: usize)
-    requires { (from ≤ 1024) × (to ≤ 1024) }
-{
-    set_at(model, to, word_at(words, from));
-    set_at(model, to + 1, word_at(words, from + 1));
-    set_at(model, to + 2, word_at(words, from + 2));
-    put_floats(words, from + 3, model, to + 3);
-    set_at(model, to + 6, word_at(words, from + 9));
-}
-
-// Writes the model that begins at word 7.
-pub fn put_model(words: &[u64], rows: usize, model: &mut [u64])
-    requires { rows ≤ 15 }
-{
-    for i in 0..rows {
-        put_row(words, 7 + 10 * i, model, 7 * i);
+// Writes the model whose number of rows is word 6.
+pub fn put_model(words: &[u64], model: &mut [u64]) {
+    let (rows, _) = model.as_chunks_mut::<7>();
+    for (row, ten) in rows.iter_mut().zip(parts_at(words, 6)) {
+        *row = row_of(ten);
     }
 }
 
@@ -60,7 +59,7 @@ fn show_signal(rt: &impl Print, answer: Result<MicroPriceSignal, Refusal>) {
             show_after(rt, s.timestamp_ms);
             show_after(rt, s.mid_sum);
             show_after(rt, floats::to_bits(s.adjustment));
-            show_after(rt, model_signals::inner::source_number(s.source));
+            show_after(rt, u64::from(s.source));
         }
         Err(refusal) => show(rt, refusal.number()),
     }
@@ -73,14 +72,12 @@ pub fn show_signals(
     model: &[u64],
     words: &[u64],
     at: usize,
-)
-    requires { at ≤ 4096 }
-{
-    for i in 0..cases_shared::reading::count_at(words, at) {
+) {
+    for (i, quote) in parts_at(words, at).iter().enumerate() {
         if i != 0 {
             let _ = rt.print(" ");
         }
-        let quote = cases_shared::reading::quote_at(words, at + 1 + 5 * i);
+        let quote = TopOfBook::from(*quote);
         show_signal(rt, model_signals::signal(config, model, quote));
     }
 }

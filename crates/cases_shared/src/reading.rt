@@ -1,4 +1,4 @@
-// Standard input, and the words of a case, read from a line of text. Where a function has a `requires`, each caller proves it.
+// Standard input, and the words of a case, read from a line of text.
 ghost use Rattle.std.specs.Prelude.{◌<◌, ◌≤◌, length};
 
 use config::MicroPriceConfig;
@@ -6,7 +6,8 @@ use quotes::TopOfBook;
 use std::io::Read;
 
 // Reads until the buffer is full, the input ends or a read fails. Answers how many bytes it put in front of the buffer.
-// A `while`: each read may put any number of bytes, and `read_exact` does not say how many came.
+// A `while`: each read may put any number of bytes, and `read_exact` does not say how many came. Beside that of `evening_main`, where a failed read is an
+// error.
 pub fn read_full<R: Read>(reader: &mut R, buffer: &mut [u8]) -> usize
     ensures { result ≤ length buffer.new }
 {
@@ -32,7 +33,7 @@ pub fn set_at<T: Copy>(words: &mut [T], i: usize, w: T) {
     }
 }
 
-// The number that the digits among some bytes write. No word of the cases has more than 19.
+// The number that the digits among some bytes write. No word of the cases has more than 19. No `parse`: that takes a `&str`.
 fn number_of(digits: &[u8]) -> u64 {
     digits
         .iter()
@@ -58,29 +59,37 @@ pub fn count_at(words: &[u64], i: usize) -> usize
 
 // The configuration of words 1 to 5.
 pub fn config_of(words: &[u64]) -> MicroPriceConfig {
-    let tick = word_at(words, 1);
-    let n = word_at(words, 2);
-    let s = word_at(words, 3);
-    let least = word_at(words, 4);
-    let gap = word_at(words, 5);
-    let held = [tick, n, s, least, gap];
-    config::inner::config_of(&held)
+    config::inner::config_of(&[
+        word_at(words, 1),
+        word_at(words, 2),
+        word_at(words, 3),
+        word_at(words, 4),
+        word_at(words, 5),
+    ])
 }
 
-// The quote of five words.
-pub fn quote_at(words: &[u64], at: usize) -> TopOfBook
-    requires { at ≤ 65536 }
+// The parts of N words whose number is word `at`, as far as they are there. A case is one line of words, and its parts stand at places that its own
+// numbers give: so a place goes with the words.
+pub fn parts_at<const N: usize>(words: &[u64], at: usize) -> &[[u64; N]]
+    requires { 0 < N }
 {
-    let timestamp_ms = word_at(words, at);
-    let bid = word_at(words, at + 1);
-    let ask = word_at(words, at + 2);
-    let bid_size = word_at(words, at + 3);
-    let ask_size = word_at(words, at + 4);
-    TopOfBook {
-        timestamp_ms,
-        bid,
-        ask,
-        bid_size,
-        ask_size,
+    match words.get(at..) {
+        Some([_, rest @ ..]) => {
+            let (parts, _) = rest.as_chunks::<N>();
+            &parts[..parts.len().min(count_at(words, at))]
+        }
+        _ => &[],
     }
+}
+
+// The quote of the five words from word `at` on.
+pub fn quote_at(words: &[u64], at: usize) -> TopOfBook {
+    let rest = words.get(at..).unwrap_or(&[]);
+    TopOfBook::from([
+        word_at(rest, 0),
+        word_at(rest, 1),
+        word_at(rest, 2),
+        word_at(rest, 3),
+        word_at(rest, 4),
+    ])
 }

@@ -22,7 +22,7 @@ pub fn show_after(rt: &impl Print, w: u64) {
     show_all(rt, " ", &[w], "");
 }
 
-// The entries of n by n cells that are not 0: kind, row, column, value.
+// The entries of n by n cells that are not 0: kind, row, column, value. The kind is the number that is printed, here and below.
 fn show_cells(rt: &impl Print, kind: u64, n: usize, table: &[u64]) {
     for (k, v) in table.iter().enumerate() {
         if *v != 0 && n != 0 {

@@ -1,46 +1,38 @@
-// The tables and the image of a case. Where a function has a `requires`, each caller proves it.
+// The tables and the image of a case.
 ghost use Rattle.std.specs.Prelude.{◌≡◌, ◌*◌, ◌≤◌};
 
-use crate::reading::{count_at, set_at, word_at};
+use crate::reading::{parts_at, set_at, word_at};
 use calibrator::Record;
 use image_words::Word;
 use tally::{LentTables, TablesView};
 
 // A record of so many pairs, before its first quote.
 pub fn record_of(pairs: u64) -> Record {
-    let mut counters = calibrator::inner::no_counters();
-    counters.pairs = pairs;
-    Record {
-        previous: None,
-        counters,
-    }
+    let mut rec = Record::default();
+    rec.counters.pairs = pairs;
+    rec
 }
 
-pub fn product(a: usize, b: usize) -> usize
-    requires { (a ≤ 255) × (b ≤ 520) }
-    ensures { (result ≡ a * b) × (result ≤ 255 * b) }
-{
-    a * b
+// The states of a case; no case has more than 255. This and the cells are beside those of `config` and `image_layout`, which ask for a valid configuration.
+pub fn states_of(words: &[u64]) -> u8 {
+    let n = word_at(words, 2) % 256;
+    let s = word_at(words, 3) % 256;
+    (n * s % 256) as u8
 }
 
-// The states of a case; no case has more than 255.
-pub fn states_of(words: &[u64]) -> usize
-    ensures { result ≤ 255 }
+// The cells of a table.
+pub fn cell_count(n: u8) -> usize
+    ensures { (result ≡ n * n) × (result ≤ 65025) }
 {
-    let n = (word_at(words, 2) % 256) as usize;
-    let s = (word_at(words, 3) % 256) as usize;
-    product(n, s) % 256
+    let n = usize::from(n);
+    n * n
 }
 
-// Enters the quadruple of words from `at` on. Its last is the value: kind 0 in a cell of stay, 1 in one of moved, 2 as the total of i, 3 as its opposite.
-fn enter_at(words: &[u64], at: usize, n: usize, tables: &mut LentTables<'_>)
-    requires { (at ≤ 65536) × (n ≤ 255) }
-{
-    let kind = word_at(words, at);
-    let i = (word_at(words, at + 1) % 256) as usize;
-    let j = (word_at(words, at + 2) % 256) as usize;
-    let v = word_at(words, at + 3);
-    let cell = product(n, i) + j;
+// Enters a quadruple. Its last is the value: kind 0 in a cell of stay, 1 in one of moved, 2 as the total of i, 3 as its opposite.
+fn enter(entry: &[u64; 4], n: u8, tables: &mut LentTables<'_>) {
+    let [kind, i, j, v] = *entry;
+    let i = (i % 256) as usize;
+    let cell = usize::from(n) * i + (j % 256) as usize;
     // A word of the case's text, matched once: an enum would say each number and each case twice.
     match kind {
         0 => set_at(tables.stay, cell, v),
@@ -51,52 +43,43 @@ fn enter_at(words: &[u64], at: usize, n: usize, tables: &mut LentTables<'_>)
 }
 
 // Enters the entries whose number is word `at`.
-pub fn fill(words: &[u64], at: usize, n: usize, tables: &mut LentTables<'_>)
-    requires { (at ≤ 16) × (n ≤ 255) }
-{
-    for q in 0..count_at(words, at) {
-        enter_at(words, at + 1 + 4 * q, n, tables);
+pub fn fill(words: &[u64], at: usize, n: u8, tables: &mut LentTables<'_>) {
+    for entry in parts_at(words, at) {
+        enter(entry, n, tables);
     }
 }
 
-// Where the moved cells begin in an image of n states.
-fn moved_at(n: usize) -> usize
-    requires { n ≤ 255 }
+// Where the moved cells begin in an image of n states. Apart from `image_layout`, which writes a true header alone: a case's may hold any words.
+fn moved_at(n: u8) -> usize
     ensures { result ≤ 520360 }
 {
-    image_layout::HEADER + 8 * product(n, n)
+    image_layout::HEADER + 8 * cell_count(n)
 }
 
 // Where its totals begin.
-fn totals_at(n: usize) -> usize
-    requires { n ≤ 255 }
+fn totals_at(n: u8) -> usize
     ensures { result ≤ 1040560 }
 {
-    image_layout::HEADER + 16 * product(n, n)
+    image_layout::HEADER + 16 * cell_count(n)
 }
 
-pub fn image_length(n: usize) -> usize
-    requires { n ≤ 255 }
+pub fn image_length(n: u8) -> usize
     ensures { result ≤ 1042600 }
 {
-    totals_at(n) + 8 * n
+    totals_at(n) + 8 * usize::from(n)
 }
 
 // Writes a table, if it has room.
-fn put_table<T: Word>(image: &mut [u8], at: usize, table: &[T])
-    requires { at ≤ 1042600 }
-{
+fn put_table<T: Word>(image: &mut [u8], at: usize, table: &[T]) {
     if at <= image.len() && table.len() <= (image.len() - at) / 8 {
         image_words::put_table(image, at, table);
     }
 }
 
 // Writes the header of case 3's image: words 1 to 5 of the case are the configuration, 6 to 15 the record.
-fn put_header(words: &[u64], n: usize, image: &mut [u8])
-    requires { n ≤ 255 }
-{
+fn put_header(words: &[u64], n: u8, image: &mut [u8]) {
     let header = [
-        n as u64,
+        u64::from(n),
         word_at(words, 2),
         word_at(words, 3),
         word_at(words, 1),
@@ -121,9 +104,7 @@ fn put_header(words: &[u64], n: usize, image: &mut [u8])
 }
 
 // Writes the image of case 3.
-pub fn put_image(words: &[u64], n: usize, tables: TablesView<'_>, image: &mut [u8])
-    requires { n ≤ 255 }
-{
+pub fn put_image(words: &[u64], n: u8, tables: TablesView<'_>, image: &mut [u8]) {
     put_header(words, n, image);
     put_table(image, image_layout::HEADER, tables.stay);
     put_table(image, moved_at(n), tables.moved);

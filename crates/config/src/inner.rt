@@ -6,7 +6,8 @@ ghost use Rattle.config.specs.Inner.{Valid};
 use super::MicroPriceConfig;
 use basics::DOMAIN;
 
-// Most states.
+// Most states. Where a function needs that a number of states or buckets is at most that, it has a clause: a struct of one number would be made anew at each
+// call.
 const MAX_STATES: u64 = 256;
 
 // The first two tests keep the product within a word; `checked_mul` would divide.
@@ -26,7 +27,8 @@ pub fn is_valid(config: MicroPriceConfig) -> bool
         & (1 <= config.max_quote_gap_ms)
 }
 
-// Document 01's N.
+// Document 01's N. `Valid` is a clause: a struct of a valid configuration would be made anew in each operation, after refusal 1, and every clause would say
+// `c.config`.
 pub fn state_count(config: MicroPriceConfig) -> usize
     requires { Valid config }
     ensures { result ≡ states config }
@@ -37,7 +39,7 @@ pub fn state_count(config: MicroPriceConfig) -> usize
 // How many words a configuration has.
 pub const CONFIG_WORDS: usize = 5;
 
-// The configuration of its words. No `From<[u64; 5]>`: callers hold slices, and each would copy one into an array first.
+// The configuration of its words. No `From<[u64; 5]>`: the exported functions hold slices, and each would copy one into an array first.
 pub fn config_of(w: &[u64]) -> MicroPriceConfig
     requires { is_config w.now ≡ true }
     ensures { result ≡ config_of w.now }
@@ -47,7 +49,7 @@ pub fn config_of(w: &[u64]) -> MicroPriceConfig
         .with_max_quote_gap_ms(w[4])
 }
 
-// Writes the words of a configuration.
+// Writes the words of a configuration. No `From`: they stand in a lent slice.
 pub fn put_config(w: &mut [u64], config: MicroPriceConfig)
     requires { is_config w.old ≡ true }
     ensures { w.new ≡ config_words config }

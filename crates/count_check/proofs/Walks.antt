@@ -1,20 +1,21 @@
 -- Walks by one over tests at numbers, and two walks over the same answers. Steps of a walk over checks are in refusals.
 use Prim.Native.Nat.{ℕ, zero, suc, ◌+◌, ◌-◌, ◌≤◌, ◌<◌}
-use mathlib.Core.Path.{◌≡◌, refl, sym, subst}
-use mathlib.Core.Bool.{Bool, true, false, ◌&&◌}
+use mathlib.Core.Path.{◌≡◌, refl, subst, ap}
+use mathlib.Core.Bool.{Bool, true, ◌&&◌, ◌||◌}
+use mathlib.Core.List.{List}
 use mathlib.Core.Logic.{⊎_elim}
 use native.Mathlib.Omega.{arith}
 use native.Mathlib.Numerals.{add-one}
-use Rattle.basics.specs.Lists.{all_from}
-use Rattle.basics.proofs.Tests.{both, le-or-lt, still, zero-not-one}
+use lib.ListN.{length, get_or, drop, drop_of_length-le}
+use lib.Seq.{drop-cons}
+use Rattle.std.specs.List.{range_with_len, list_any, list_all}
+use Rattle.basics.specs.Lists.{any, all_from}
+use Rattle.basics.proofs.Tests.{both, le-or-lt, still}
 use Rattle.refusals.specs.Refusals.{first_of, first_from, Check}
 
 module _ (p : ℕ → Bool) where
   pub all-step : (i m : ℕ) → i < m → p i ≡ true → all_from p i (m - i) ≡ all_from p (i + 1) (m - (i + 1))
   all-step i m h t = rw (still i m h, t, add-one)
-
-  pub all-stop : (i m : ℕ) → i < m → p i ≡ false → all_from p i (m - i) ≡ false
-  all-stop i m h t = rw (still i m h, t)
 
   -- where all hold, each does
   pub all-at : (i n k : ℕ) → all_from p i n ≡ true → i ≤ k → k < i + n → p k ≡ true
@@ -25,23 +26,18 @@ module _ (p : ℕ → Bool) where
       (λ (g : i < k). all-at (suc i) n k b.1 (omega arith) (omega arith))
       (le-or-lt k i)
 
-module _ (p : ℕ → Bool) where
-  all-true : (i n : ℕ) → ((k : ℕ) → i ≤ k → k < i + n → p k ≡ true) → all_from p i n ≡ true
-  all-true i zero h = refl
-  all-true i (suc n) h = rw (h i (omega arith) (omega arith)) (all-true (suc i) n (λ k a b. h k (omega arith) (omega arith)))
+  -- a test of n numbers from i on
+  pub all-range : (i n : ℕ) → list_all p (range_with_len i n) ≡ all_from p i n
+  all-range i zero = refl
+  all-range i (suc n) = rw add-one (ap (λ b. p i && b) (all-range (suc i) n))
 
-  all-false : (n k : ℕ) → k < n → p k ≡ false → all_from p 0 n ≡ false
-  all-false n k l f = go (all_from p 0 n) refl
-    where
-      go : (b : Bool) → all_from p 0 n ≡ b → b ≡ false
-      go false e = refl
-      go true e = let t : p k ≡ true = all-at p 0 n k e (omega arith) (omega arith) in absurd (zero-not-one cc)
-
-  -- a test of all numbers below n
-  pub all-by : (n : ℕ) (r : Bool) → (r ≡ true → (k : ℕ) → k < n → p k ≡ true) → (r ≡ false → (k : ℕ) × (k < n) × (p k ≡ false))
-      → r ≡ all_from p 0 n
-  all-by n true h f = sym (all-true 0 n (λ k a b. h refl k (omega arith)))
-  all-by n false h f = sym (all-false n (f refl).0 (f refl).1 (f refl).2)
+-- a test of the elements of a list from place i on, by their places
+pub any-range : {A : Type 0} (p : A → Bool) (d : A) (l : List A) (i n : ℕ) → length l ≡ i + n
+    → list_any (λ k. p (get_or l k d)) (range_with_len i n) ≡ any p (drop i l)
+any-range p d l i zero e = rw (drop_of_length-le l (let z : length l ≤ i = omega arith in z)) refl
+any-range p d l i (suc n) e =
+    let h : i < length l = omega arith in
+    rw (drop-cons l i d h, add-one) (ap (λ b. p (get_or l i d) || b) (any-range p d l (suc i) n (omega arith)))
 
 -- walks over the same answers
 pub all-ext : (p q : ℕ → Bool) (i k : ℕ) → ((j : ℕ) → j < i + k → p j ≡ q j) → all_from p i k ≡ all_from q i k

@@ -87,88 +87,6 @@ impl<'a> Counted for Imaged<'a> {
     }
 }
 
-fn totals_over<S: Counted>(source: &S, n: usize) -> bool
-    requires { length (S.held source.now).totals ≡ n }
-    ensures { result ≡ any over_total (S.held source.now).totals }
-{
-    for i in 0..n {
-        if CELL_LIMIT < source.total(i).unsigned_abs() {
-            return true;
-        }
-    }
-    false
-}
-
-fn total_mirrored<S: Counted>(source: &S, i: usize, m: usize) -> bool
-    requires { (i < length (S.held source.now).totals) × (m < length (S.held source.now).totals) }
-    ensures { result ≡ total_mirrored (S.held source.now).totals i m }
-{
-    source.total(i).checked_neg() == Some(source.total(m))
-}
-
-// The sum of all cells, or `u64::MAX` where it is more.
-fn sum_capped<S: Counted>(source: &S, cells: usize) -> u64
-    requires { (length (S.held source.now).stay ≡ cells) × (length (S.held source.now).moved ≡ cells) }
-    ensures { result ≡ min u64.MAX (sum (S.held source.now).stay + sum (S.held source.now).moved) }
-{
-    let mut stay: u64 = 0;
-    let mut moved: u64 = 0;
-    for i in 0..cells {
-        stay = stay.saturating_add(source.stay_cell(i));
-        moved = moved.saturating_add(source.moved_cell(i));
-    }
-    stay.saturating_add(moved)
-}
-
-// Twice the pairs is below the cap.
-fn is_twice<S: Counted>(source: &S, pairs: u64, cells: usize) -> bool
-    requires { (pairs ≤ counter_limit) × (length (S.held source.now).stay ≡ cells) × (length (S.held source.now).moved ≡ cells) }
-    ensures { result ≡ is_twice pairs (S.held source.now) }
-{
-    sum_capped(source, cells) == 2 * pairs
-}
-
-// In both tables the cell of states i and j equals its mirror's.
-fn cell_mirrored<S: Counted>(source: &S, n: usize, mirrors: &[usize], i: usize, j: usize) -> bool
-    requires { HasTables n (S.held source.now) × Mirrors n mirrors.now × (i < n) × (j < n) }
-    ensures { result ≡ cell_mirrored n (λ k. get_or mirrors.now k 0) (S.held source.now) i j }
-{
-    let x = tally::cell(n, i, j);
-    let y = tally::cell(n, mirrors[i], mirrors[j]);
-    (source.stay_cell(x) == source.stay_cell(y)) & (source.moved_cell(x) == source.moved_cell(y))
-}
-
-fn row_mirrored<S: Counted>(source: &S, n: usize, mirrors: &[usize], i: usize) -> bool
-    requires { HasTables n (S.held source.now) × Mirrors n mirrors.now × (i < n) }
-    ensures { result ≡ row_mirrored n (λ k. get_or mirrors.now k 0) (S.held source.now) i }
-{
-    (0..n).all(|j| cell_mirrored(source, n, mirrors, i, j))
-}
-
-// A state's total (9), then its row of cells (10).
-fn check_state<S: Counted>(source: &S, n: usize, mirrors: &[usize], i: usize) -> Result<(), Refusal>
-    requires { HasTables n (S.held source.now) × Mirrors n mirrors.now × (i < n) }
-    ensures { result ≡ check_state n (λ k. get_or mirrors.now k 0) (S.held source.now) i }
-{
-    if !total_mirrored(source, i, mirrors[i]) {
-        return Err(Refusal::TotalsUnmirrored);
-    }
-    if !row_mirrored(source, n, mirrors, i) {
-        return Err(Refusal::CellsUnmirrored);
-    }
-    Ok(())
-}
-
-fn check_states<S: Counted>(source: &S, n: usize, mirrors: &[usize]) -> Result<(), Refusal>
-    requires { HasTables n (S.held source.now) × Mirrors n mirrors.now }
-    ensures { result ≡ first_from (check_state n (λ k. get_or mirrors.now k 0) (S.held source.now)) 0 n }
-{
-    for i in 0..n {
-        check_state(source, n, mirrors, i)?;
-    }
-    Ok(())
-}
-
 fn counters_over(k: Counters) -> bool
     ensures { result ≡ counters_over k }
 {
@@ -177,27 +95,105 @@ fn counters_over(k: Counters) -> bool
         | (COUNTER_LIMIT < k.skipped_gap_pairs)
 }
 
-// The check of n states with their mirrors.
-pub fn check_counts<S: Counted>(
-    n: usize,
-    mirrors: &[usize],
-    counters: Counters,
-    source: &S,
-) -> Result<(), Refusal>
-    requires { HasTables n (S.held source.now) × Mirrors n mirrors.now }
-    ensures { result ≡ check_counts n (λ k. get_or mirrors.now k 0) (counts_of counters (S.held source.now)) }
-{
-    if counters_over(counters) || totals_over(source, n) {
-        return Err(Refusal::CountLimit);
-    }
-    check_states(source, n, mirrors)?;
-    if !is_twice(source, counters.pairs, n * n) {
-        return Err(Refusal::CellsNotTwicePairs);
-    }
-    Ok(())
+// The tables of n states, wherever they lie, with the table of the states' mirrors.
+#[derive(Drop)]
+pub struct MirroredTables<'a, 'm, S: Counted> {
+    pub n: usize,
+    pub mirrors: &'m [usize],
+    pub source: &'a S,
+    pub ghost has_tables: { HasTables n (S.held source.now) },
+    pub ghost has_mirrors: { Mirrors n mirrors.now },
 }
 
-// The mirrors of a configuration's states, in one walk that knows the spread level of each.
+impl<S: Counted> MirroredTables<'_, '_, S> {
+    fn totals_over(&self) -> bool
+        ensures { result ≡ any over_total (S.held self.now.source.now).totals }
+    {
+        (0..self.n).any(|i| CELL_LIMIT < self.source.total(i).unsigned_abs())
+    }
+
+    // The total of the mirror of i is that of i negated.
+    fn total_mirrored(&self, i: usize) -> bool
+        requires { i < self.now.n }
+        ensures { result ≡ total_mirrored (S.held self.now.source.now).totals i (get_or self.now.mirrors.now i 0) }
+    {
+        self.source.total(i).checked_neg() == Some(self.source.total(self.mirrors[i]))
+    }
+
+    // The sum of all cells, or `u64::MAX` where it is more.
+    fn sum_capped(&self) -> u64
+        ensures { result ≡ min u64.MAX (sum (S.held self.now.source.now).stay + sum (S.held self.now.source.now).moved) }
+    {
+        let cells = self.n * self.n;
+        let stay = (0..cells).fold(0u64, |sum, i| sum.saturating_add(self.source.stay_cell(i)));
+        (0..cells).fold(stay, |sum, i| sum.saturating_add(self.source.moved_cell(i)))
+    }
+
+    // Twice the pairs is below the cap.
+    fn is_twice(&self, pairs: u64) -> bool
+        requires { pairs ≤ counter_limit }
+        ensures { result ≡ is_twice pairs (S.held self.now.source.now) }
+    {
+        self.sum_capped() == 2 * pairs
+    }
+
+    // In both tables the cell of states i and j equals its mirror's.
+    fn cell_mirrored(&self, i: usize, j: usize) -> bool
+        requires { (i < self.now.n) × (j < self.now.n) }
+        ensures { result ≡ cell_mirrored self.now.n (λ k. get_or self.now.mirrors.now k 0) (S.held self.now.source.now) i j }
+    {
+        let x = tally::cell(self.n, i, j);
+        let y = tally::cell(self.n, self.mirrors[i], self.mirrors[j]);
+        (self.source.stay_cell(x) == self.source.stay_cell(y))
+            & (self.source.moved_cell(x) == self.source.moved_cell(y))
+    }
+
+    fn row_mirrored(&self, i: usize) -> bool
+        requires { i < self.now.n }
+        ensures { result ≡ row_mirrored self.now.n (λ k. get_or self.now.mirrors.now k 0) (S.held self.now.source.now) i }
+    {
+        (0..self.n).all(|j| self.cell_mirrored(i, j))
+    }
+
+    // A state's total (9), then its row of cells (10).
+    fn check_state(&self, i: usize) -> Result<(), Refusal>
+        requires { i < self.now.n }
+        ensures { result ≡ check_state self.now.n (λ k. get_or self.now.mirrors.now k 0) (S.held self.now.source.now) i }
+    {
+        if !self.total_mirrored(i) {
+            return Err(Refusal::TotalsUnmirrored);
+        }
+        if !self.row_mirrored(i) {
+            return Err(Refusal::CellsUnmirrored);
+        }
+        Ok(())
+    }
+
+    fn check_states(&self) -> Result<(), Refusal>
+        ensures { result ≡ first_from (check_state self.now.n (λ k. get_or self.now.mirrors.now k 0) (S.held self.now.source.now)) 0 self.now.n }
+    {
+        for i in 0..self.n {
+            self.check_state(i)?;
+        }
+        Ok(())
+    }
+
+    // The check of n states with their mirrors.
+    pub fn check_counts(&self, counters: Counters) -> Result<(), Refusal>
+        ensures { result ≡ check_counts self.now.n (λ k. get_or self.now.mirrors.now k 0) (counts_of counters (S.held self.now.source.now)) }
+    {
+        if counters_over(counters) || self.totals_over() {
+            return Err(Refusal::CountLimit);
+        }
+        self.check_states()?;
+        if !self.is_twice(counters.pairs) {
+            return Err(Refusal::CellsNotTwicePairs);
+        }
+        Ok(())
+    }
+}
+
+// The mirrors of a configuration's states, in one walk that knows the spread level of each. Room for the most states: no heap.
 pub fn mirrors_of(config: MicroPriceConfig) -> [usize; 256]
     requires { Valid config }
     ensures { (i : ℕ) → i < states config → get_or result i 0 ≡ mirror_of config.imbalance_buckets i }
@@ -205,12 +201,9 @@ pub fn mirrors_of(config: MicroPriceConfig) -> [usize; 256]
     let n = config::inner::state_count(config);
     let w = config.imbalance_buckets as usize;
     let mut r = [0usize; 256];
-    let mut level = Level {
-        spread: 1,
-        first: 0,
-    };
-    for i in 0..n {
-        r[i] = quotes::inner::mirror_in(w, level.first, i);
+    let mut level = Level::FIRST;
+    for (i, mirror) in r[..n].iter_mut().enumerate() {
+        *mirror = quotes::inner::mirror_in(w, level.first, i);
         level = quotes::inner::level_after(w, level, i);
     }
     r
@@ -225,7 +218,11 @@ pub fn check_tables<S: Counted>(
     requires { Valid config × HasTables (states config) (S.held source.now) }
     ensures { result ≡ check_mirrored config (counts_of counters (S.held source.now)) }
 {
-    let n = config::inner::state_count(config);
     let mirrors = mirrors_of(config);
-    check_counts(n, &mirrors, counters, source)
+    let tables = MirroredTables {
+        n: config::inner::state_count(config),
+        mirrors: &mirrors,
+        source,
+    };
+    tables.check_counts(counters)
 }

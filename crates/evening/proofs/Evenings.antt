@@ -18,7 +18,7 @@ use Rattle.recording.specs.Observe.{recorded}
 use Rattle.recording.specs.declared.Ends.{Ends}
 use Rattle.recording.proofs.Parts.{handed-known, handed-quotes}
 use Rattle.evening.specs.Evening.{EveningOutcome, evening_refusal, counted, evening_unless, calibrated}
-use Rattle.evening.specs.Inner.{check_slices}
+use Rattle.fit.specs.Inner.{check_slices}
 
 -- a window that is found is not refused
 window-fine : (k : Check) (e f : Ends) → window_unless k e ≡ Ok f → Ok tt ≡ k

@@ -1,7 +1,6 @@
 -- An evening's calibration: document 01, "An evening's calibration".
 use Rattle.std.specs.Prelude.{ℕ, List, length, Float, Result, Ok, Err}
 use Rattle.refusals.specs.Refusals.{refuse_if, first_of, Check}
-use Rattle.evening.specs.declared.Counted.{Counted}
 use Rattle.refusals.specs.declared.Refusal.{Refusal}
 use Rattle.config.specs.Configuration.{states}
 use Rattle.config.specs.declared.MicroPriceConfig.{MicroPriceConfig}
@@ -11,16 +10,17 @@ use Rattle.calibrator.specs.Record.{Previous}
 use Rattle.recording.specs.Recording.{quotes_of, filter}
 use Rattle.recording.specs.Window.{inside, check_window}
 use Rattle.recording.specs.Observe.{RecordedOutcome, recorded}
+use Rattle.recording.specs.declared.Recorded.{Recorded}
 use Rattle.fit.specs.Fit.{wrong_fit_lengths, FitOutcome, fit_counts}
 
 -- the answer, and what stands in the record and tables, in the model table and in scratch
 pub record EveningOutcome : Type 0 where
-  pub answer : Result Counted Refusal
+  pub answer : Result Recorded Refusal
   pub left : Memory Previous
   pub model : List ℕ
   pub scratch : List Float
 
-abbrev pub end_evening : Result Counted Refusal → Memory Previous → List ℕ → List Float → EveningOutcome
+abbrev pub end_evening : Result Recorded Refusal → Memory Previous → List ℕ → List Float → EveningOutcome
 end_evening answer left model scratch = record { answer = answer; left = left; model = model; scratch = scratch }
 
 -- 7, 14, 15, 1, 7 (other slices)

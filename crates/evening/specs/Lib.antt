@@ -1,2 +1,1 @@
 pub mod Evening
-pub mod Inner

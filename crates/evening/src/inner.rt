@@ -1,34 +1,17 @@
 // Inner functions: for `calibrate_micro_price`, not for users. Where one has a `requires`, its caller proves it.
 ghost use Rattle.std.specs.Prelude.{◌≡◌, false, Ok};
-ghost use Rattle.tally.specs.Lent.{tables_of, tables_in, SameSlices};
+ghost use Rattle.tally.specs.Lent.{tables_of, SameSlices};
 ghost use Rattle.calibrator.specs.Record.{memory_with};
 ghost use Rattle.calibrator.specs.Observe.{check_lent, fresh};
 ghost use Rattle.recording.specs.Recording.{quotes_of, uneven};
 ghost use Rattle.recording.specs.Observe.{recorded};
-ghost use Rattle.evening.specs.Inner.{check_slices};
 ghost use Rattle.evening.specs.Evening.{end_evening, counted};
 
-use super::Counted;
 use calibrator::Record;
 use config::MicroPriceConfig;
+use recording::Recorded;
 use refusals::Refusal;
-use tally::{LentTables, TablesView};
-
-// 1, 7.
-pub fn check_lengths(
-    config: MicroPriceConfig,
-    tables: TablesView<'_>,
-    scratch: usize,
-    model: usize,
-) -> Result<(), Refusal>
-    ensures { result ≡ check_slices config (tables_in tables.entry) scratch model }
-{
-    calibrator::inner::check_table_lengths(config, tables)?;
-    if fit::inner::wrong_fit_lengths(config::inner::state_count(config), scratch, model) {
-        return Err(Refusal::SliceLength);
-    }
-    Ok(())
-}
+use tally::LentTables;
 
 // A part of a recording given to a new calibrator, then the fit. A quote that stops it leaves a new calibrator.
 pub fn count_and_fit(
@@ -38,12 +21,13 @@ pub fn count_and_fit(
     part: &[u64],
     scratch: &mut [f64],
     model: &mut [u64],
-) -> Result<Counted, Refusal>
+) -> Result<Recorded, Refusal>
     requires { (check_lent config (tables_of tables.old) ≡ Ok tt) × (uneven part.now ≡ false) }
     ensures left { end_evening result (memory_with rec.new (tables_of tables.new)) model.new scratch.new
         ≡ counted config (recorded config (quotes_of part.now) 0 (fresh config)) model.old scratch.old }
     ensures same_slices { SameSlices tables.old tables.new }
 {
+    // The lengths are judged: no `?` here answers.
     calibrator::new(rec, tables, config)?;
     let observed = recording::inner::observe_recording(rec, tables, config, part);
     if let Err(refusal) = observed.answer {
@@ -51,7 +35,7 @@ pub fn count_and_fit(
         return Err(refusal);
     }
     let answer = fit::fit_counts(rec, tables.view(), config, scratch, model);
-    Ok(Counted {
+    Ok(Recorded {
         answer,
         invalid: observed.invalid,
     })

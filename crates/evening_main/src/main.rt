@@ -1,5 +1,5 @@
-// The evening program (document 01, "Marked and run"): what standard input holds goes to `program_report::evening_text`, and what that answers to standard output.
-// Where a read or a write fails, a line on standard error says so; after a failed read nothing is written to standard output.
+// The evening program (document 01, "Marked and run"): what standard input holds goes to `program_report::evening_text`, and what that answers to standard
+// output. Where a read or a write fails, a line on standard error says so; after a failed read nothing is written to standard output.
 #![tactic(auto)]
 
 ghost use Rattle.std.specs.Prelude.{length};

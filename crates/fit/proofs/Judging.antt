@@ -7,7 +7,6 @@ use native.Mathlib.Numerals.{add-one}
 use native.Mathlib.Omega.{arith}
 use borrow.Author.Tests.{not-true, not-false}
 use lib.Dec.{eqb}
-use lib.Ieee.{Float}
 use lib.ListN.{length, get_or, length-append}
 use lib.Seq.{sets}
 use Rattle.basics.proofs.Stores.{sets-append, sets-whole}
@@ -18,38 +17,35 @@ use Rattle.fit_marking.proofs.Rows.{any-least}
 use Rattle.fit_marking.proofs.Below.{some-none, some_at, some-step, some_more}
 use Rattle.model.specs.Rows.{row_words}
 use Rattle.model.specs.declared.StateEstimate.{StateEstimate}
-use Rattle.model.specs.declared.StateStatus.{StateStatus}
 use Rattle.fit_linear.specs.Inner.{from}
 use Rattle.fit_series.specs.Inner.{sum_at, share_at, solved_g1}
-use Rattle.fit_system.specs.Inner.{Marks}
 use Rattle.quotes.specs.States.{bucket_in, spread_in}
 use Rattle.std.specs.Prelude.{Ok, Err}
 use Rattle.refusals.specs.declared.Refusal.TheVariants.{NoCalibratedState, Unrepresentable}
 use Rattle.fit_estimates.specs.Estimates.{estimate_of, solved_at, representable}
 use Rattle.fit_estimates.specs.declared.Solved.{Solved}
 use Rattle.fit.specs.Fit.{judged_rows, table_of, fit_answer}
-use Rattle.fit.specs.Inner.{rows_in}
-use Rattle.fit.specs.InnerInput.{input_in}
-use Rattle.fit.specs.declared.inner.FitInput.{FitInput}
+use Rattle.fit.specs.InnerInput.{estimates_in}
+use Rattle.fit.specs.declared.inner.SolvedInput.{SolvedInput}
 
 -- ---- the rows that scratch holds
 
--- what is so of the rows in scratch, for every least count for which the marks are the marks of the cells
-abbrev pub OfRows : FitInput → List StateStatus → List Float → ((ℕ → StateEstimate) → Type 0) → Type 0
-OfRows f marks scratch So = (least : ℕ) → let G = input_in f least in Marks G.cells marks → So (rows_in G.cells.states G scratch)
-
 -- state i's row, made of what scratch has for it and its mirror, of its observations and of its mark
-pub row_made : (f : FitInput) (marks : List StateStatus) (scratch : List Float) (i : ℕ) → i < f.tables.pairs.states
-    → {s : Solved} → s ≡ solved_at (λ k. get_or f.mirrors.now i 0) (solved_g1 f.tables.pairs.states scratch) (from (sum_at f.tables.pairs.states) scratch)
-    (from (share_at f.tables.pairs.states) scratch) i
-    → {o : ℕ} → o ≡ observations (cells_in f.tables.pairs 0) i
-    → {e : StateEstimate} → e ≡ estimate_of f.tick (bucket_in f.buckets i + 1) (spread_in f.buckets i) (mark_at marks i) o s
-    → OfRows f marks scratch (λ rows. e ≡ rows i)
-row_made f marks scratch i h is-s is-o is-e least m =
+pub row_made : (x : SolvedInput) (i : ℕ) → i < x.marked.input.tables.pairs.states
+    → {s : Solved}
+    → s
+    ≡ solved_at (λ k. get_or x.marked.input.mirrors.now i 0) (solved_g1 x.marked.input.tables.pairs.states x.scratch.now)
+    (from (sum_at x.marked.input.tables.pairs.states) x.scratch.now) (from (share_at x.marked.input.tables.pairs.states) x.scratch.now) i
+    → {o : ℕ} → o ≡ observations (cells_in x.marked.input.tables.pairs 0) i
+    → {e : StateEstimate}
+    → e ≡ estimate_of x.marked.input.tick (bucket_in x.marked.input.buckets i + 1) (spread_in x.marked.input.buckets i) (mark_at x.marked.marks.now i) o s
+    → e ≡ estimates_in x i
+row_made x i h is-s is-o is-e =
+    let f = x.marked.input in
     let p = f.tables.pairs in
     is-e
-    ∙ (λ j. estimate_of f.tick (bucket_in f.buckets i + 1) (spread_in f.buckets i) (m.each i h j)
-    ((is-o ∙ sym (any-least p.states least p.stay.now p.moved.now i)) j) (is-s j))
+    ∙ (λ j. estimate_of f.tick (bucket_in f.buckets i + 1) (spread_in f.buckets i) (x.marked.marked.each i h j)
+    ((is-o ∙ sym (any-least p.states f.least p.stay.now p.moved.now i)) j) (is-s j))
 
 -- ---- judged
 

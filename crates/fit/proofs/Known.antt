@@ -32,7 +32,6 @@ use Rattle.calibrator.proofs.Lengths.{tables-known, lengths-known}
 use Rattle.count_check.specs.Mirrors.{stored_over, total_mirrored, cells_alike, cell_mirrored, row_mirrored, check_state, is_twice, check_mirrored}
 use Rattle.count_check.proofs.Walks.{all-at}
 use Rattle.fit_marking.specs.Mirror.{CellsMirror}
-use Rattle.fit_series.specs.Inner.{Scratch}
 use Rattle.fit_system.specs.Inner.{Exact}
 use Rattle.fit_system.specs.Rows.{total_of}
 use Rattle.fit.specs.Fit.{fit_of, given_of, wrong_fit_lengths, fit_refusal, end_fit, fit_unless, fitted_with}
@@ -152,9 +151,6 @@ usable-of {c} {m} f ms h e =
       some-buckets = omega (arith, v.n-least);
       tick-most = v.tick-most;
     }
-
-pub scratch-of : {c : MicroPriceConfig} {m : Memory Previous} {model : ℕ} → (l : List Float) → Fittable c m (length l) model → Scratch (states c) l
-scratch-of l f = record { few = f.conf.states-most; enough = omega (arith, f.scratch-long) }
 
 -- ---- the whole
 

@@ -6,11 +6,15 @@ use Rattle.fit_marking.specs.Inner.{Fitting}
 use Rattle.fit_linear.specs.Inner.{from}
 use Rattle.fit_series.specs.Inner.{sum_at, share_at, solved_g1}
 use Rattle.fit_system.specs.Rows.{total_of}
-use Rattle.refusals.specs.Refusals.{Check}
+use Rattle.refusals.specs.Refusals.{refuse_if, first_of, Check}
+use Rattle.config.specs.Configuration.{states}
+use Rattle.config.specs.declared.MicroPriceConfig.{MicroPriceConfig}
+use Rattle.tally.specs.Entries.{Tables}
+use Rattle.calibrator.specs.Observe.{check_lent}
 use Rattle.model.specs.declared.StateEstimate.{StateEstimate}
 use Rattle.quotes.specs.States.{bucket_in, spread_in}
 use Rattle.fit_estimates.specs.Estimates.{Given, estimate}
-use Rattle.fit.specs.Fit.{Fit, fit_answer, model_after}
+use Rattle.fit.specs.Fit.{Fit, wrong_fit_lengths, fit_answer, model_after}
 
 -- what the inner functions are given: tables of n states and a table of their mirrors
 abbrev pub given_in : ℕ → ℕ → ℕ → ℕ → List ℕ → List ℕ → List ℤ → List ℕ → Given
@@ -41,3 +45,7 @@ rows_in n G l = estimate G (solved_g1 n l) (from (sum_at n) l) (from (share_at n
 pub record FitEnds (n : ℕ) (f : Fit) (before : List ℕ) (answer : Check) (after : List ℕ) : Type 0 where
   pub answers : answer ≡ fit_answer f
   pub models : after ≡ model_after n f before
+
+-- 1, 7: what a fit and an evening judge of the lengths
+abbrev pub check_slices : MicroPriceConfig → Tables → ℕ → ℕ → Check
+check_slices c t scratch model = first_of (check_lent c t) (refuse_if (wrong_fit_lengths (states c) scratch model) 7)

@@ -14,7 +14,9 @@ use Rattle.floats.specs.Floats.{abs, tiny}
 use Rattle.fit_linear.specs.Arithmetic.{rounded}
 use Rattle.fit_linear.specs.Elimination.{Elimination, solved, singular, and_then, pivot_row, swapped, reduced, column_solved, columns_solved, gauss_jordan}
 use Rattle.fit_linear.specs.Inner.{rows_of, Becomes, Eliminated}
+use Rattle.fit_linear.specs.InnerMatrix.{matrix_in, RowsEliminated}
 use Rattle.fit_linear.specs.declared.Singular.{Singular}
+use Rattle.fit_linear.specs.declared.inner.Rows.{Rows}
 use Rattle.fit_linear.proofs.Cells.{column-same, eliminated-same}
 
 -- an error says no more than that it is one
@@ -40,9 +42,15 @@ module _ (n w c p : ℕ) {l : List Float} {x : Float} (found : (p < n) × (p ≡
 
 -- ---- all columns
 
-pub columns-none : {n w : ℕ} {l : List Float} → Eliminated n w (columns_solved rounded n (rows_of w l) 0) l (Ok tt) l
+pub columns-none : {m : Rows} → RowsEliminated (columns_solved rounded m.n (matrix_in m) 0) m (Ok tt) m
 unfolding columns_solved
-columns-none = record { answers = refl; becomes = record { cells = λ r k hr hk. refl; elsewhere = λ i hi. refl } }
+columns-none =
+    record {
+      number = refl;
+      width = refl;
+      slice = refl;
+      eliminated = record { answers = refl; becomes = record { cells = λ r k hr hk. refl; elsewhere = λ i hi. refl } };
+    }
 
 -- once singular, singular
 stays : (n c k : ℕ) (A B : ℕ → ℕ → Float) → columns_solved rounded n A c ≡ singular B → columns_solved rounded n A (c + k) ≡ singular B
@@ -84,10 +92,18 @@ module _ (n w c : ℕ) {l m m' : List Float} {x : Result ⊤ Singular} (narrow :
       go (solved A) s = next A s.becomes
       go (singular A) s = absurd (zero-not-one (cc s.answers))
 
+module _ {c : ℕ} {a m b : Rows} {x : Result ⊤ Singular} (hc : c < a.n) (s : RowsEliminated (columns_solved rounded a.n (matrix_in a) c) a (Ok tt) m)
+    (e : RowsEliminated (column_solved rounded m.n (matrix_in m) c) m x b) where
+  solved-next : Eliminated a.n a.w (columns_solved rounded a.n (matrix_in a) (c + 1)) a.floats.now x b.floats.now
+  solved-next = column a.n a.w c a.fits.0 hc s.eliminated (rw (s.number, s.width) at e.eliminated)
+
+  left : {d : Elimination Float} {y : Result ⊤ Singular} → Eliminated a.n a.w d a.floats.now y b.floats.now → RowsEliminated d a y b
+  left h = record { number = e.number ∙ s.number; width = e.width ∙ s.width; slice = e.slice ∙ s.slice; eliminated = h }
+
   -- one column more
-  pub columns-more : x ≡ Ok tt → Eliminated n w (columns_solved rounded n (rows_of w l) (c + 1)) l (Ok tt) m'
-  columns-more h = rw h at column
+  pub columns-more : x ≡ Ok tt → RowsEliminated (columns_solved rounded a.n (matrix_in a) (c + 1)) a (Ok tt) b
+  columns-more h = left (rw h at solved-next)
 
   -- a singular column ends the elimination
-  pub columns-singular : x ≡ Err (record {}) → Eliminated n w (gauss_jordan rounded n (rows_of w l)) l (Err (record {})) m'
-  columns-singular h = all-singular n w (c + 1) l m' (omega arith) (rw h at column)
+  pub columns-singular : x ≡ Err (record {}) → RowsEliminated (gauss_jordan rounded a.n (matrix_in a)) a (Err (record {})) b
+  columns-singular h = left (all-singular a.n a.w (c + 1) a.floats.now b.floats.now (omega arith) (rw h at solved-next))

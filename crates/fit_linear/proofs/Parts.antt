@@ -68,9 +68,6 @@ pub record Filling (base n : ℕ) (v : ℕ → Float) (before : List Float) (k :
   pub same_length : length after ≡ length before
   pub part : Filled base k v before after
 
-pub filling-none : {base n : ℕ} {v : ℕ → Float} {l : List Float} → Filling base n v l 0 l
-filling-none = record { most = omega arith; same_length = refl; part = filled_none }
-
 module _ {base n k : ℕ} {v : ℕ → Float} {l m : List Float} (f : Filling base n v l k m) where
   pub filling-ahead : (i : ℕ) → base + k ≤ i → float_at m i ≡ float_at l i
   filling-ahead i h = filled-ahead f.part i h
@@ -83,28 +80,12 @@ module _ {base n k : ℕ} {v : ℕ → Float} {l m : List Float} (f : Filling ba
         part = filled_more f.part x (omega (arith, f.same_length)) e;
       }
 
-  pub filling-all : n ≤ k → Filled base n v l m
-  filling-all h = let all : k ≡ n = omega (arith, f.most) in rw all at f.part
-
 -- ---- a list that a loop writes from the first place up
 
 -- the first k places hold the first k of a vector
 pub record Rewriting (v : ℕ → Float) (before : List Float) (k : ℕ) (after : List Float) : Type 0 where
   pub done : (j : ℕ) → j < k → float_at after j ≡ v j
   pub ahead : (j : ℕ) → k ≤ j → float_at after j ≡ float_at before j
-
-pub rewriting-none : {v : ℕ → Float} {l : List Float} → Rewriting v l 0 l
-rewriting-none = record { done = λ j h. absurd (omega arith); ahead = λ j h. refl }
-
-pub rewriting-more : {v : ℕ → Float} {l m : List Float} {k : ℕ} {x : Float} → Rewriting v l k m → k < length m → x ≡ v k → Rewriting v l (k + 1) (set m k x)
-rewriting-more {v} {l} {m} {k} {x} s h e =
-    record {
-      done =
-          below_more (λ j. float_at (set m k x) j ≡ v j) k
-          (λ j g. let d : j ≢ k = omega arith in get_or-set_other m k j x nan d ∙ s.done j g)
-          (get_or-set_same m k x nan h ∙ e);
-      ahead = λ j g. let d : j ≢ k = omega arith in get_or-set_other m k j x nan d ∙ s.ahead j (omega arith);
-    }
 
 -- ---- a part that is written at once
 
@@ -161,10 +142,6 @@ filled-after {base} {k} {n} {v} {l} {m} {m'} f g =
     }
 
 -- ---- two parts that change places
-
--- a part with itself
-pub swapped-self : {a n : ℕ} {l : List Float} → Swapped a a n l l
-swapped-self = record { first = λ k h. refl; second = λ k h. refl; elsewhere = λ i h g. refl }
 
 module _ {a b w k : ℕ} {l m : List Float} (apart : (a + w ≤ b) ⊎ (b + w ≤ a)) (less : k < w) (s : Swapped a b k l m) where
   pub swapped-more : a + k < length m → b + k < length m → Swapped a b (k + 1) l (set (set m (a + k) (from b m k)) (b + k) (from a m k))

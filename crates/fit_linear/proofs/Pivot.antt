@@ -1,6 +1,6 @@
 -- The pivot's row lies from the diagonal down; where sizes are ordered, as those of binary64 are, its size is the greatest, and it is the last of equals.
 use Prim.Native.Nat.{ℕ, zero, suc, ◌+◌, ◌-◌, ◌<◌, ◌≤◌}
-use mathlib.Core.Path.{◌≡◌, refl, sym, ap, ◌∙◌}
+use mathlib.Core.Path.{◌≡◌, refl, sym, ◌∙◌}
 use mathlib.Core.Bool.{Bool, true, false, cond}
 use mathlib.Core.Logic.{⊎_elim}
 use native.Mathlib.Nat.{eq-or-lt_of_le}
@@ -23,51 +23,36 @@ pivot-within F A c (suc m) = go (pivot-within F A c m) (F.as_great (F.size (A (p
 
 -- ---- the search at binary64, from the row below the diagonal down
 
--- of rows c to r − 1 the pivot's row is `best`, and its size is `most`
-pub record Pivoting (n : ℕ) (A : ℕ → ℕ → Float) (c best : ℕ) (most : Float) (r : ℕ) : Type 0 where
+-- of rows c to r − 1 the pivot's row is `best`
+pub record Pivoting (n : ℕ) (A : ℕ → ℕ → Float) (c best r : ℕ) : Type 0 where
   pub below : c < r
   pub within : r ≤ n
   pub row : best < n
   pub is : best ≡ pivot_row rounded A c (r - (c + 1))
-  pub size : most ≡ abs (A best c)
 
-pub pivoting-none : {n c : ℕ} {A : ℕ → ℕ → Float} {x : Float} → c < n → x ≡ abs (A c c) → Pivoting n A c c x (c + 1)
+pub pivoting-none : {n c : ℕ} {A : ℕ → ℕ → Float} → c < n → Pivoting n A c c (c + 1)
 unfolding pivot_row
-pivoting-none {n} {c} h e =
+pivoting-none {n} {c} h =
     let z : c + 1 - (c + 1) ≡ 0 = omega arith in
-    record { below = omega arith; within = omega arith; row = h; is = rw z; size = e }
+    record { below = omega arith; within = omega arith; row = h; is = rw z }
 
--- one row more, of size x: `test` says whether it is as great as the best so far
-module _ {n c best r : ℕ} {A : ℕ → ℕ → Float} {most x : Float} {test : Bool} (s : Pivoting n A c best most r) (more : r < n) (size : x ≡ abs (A r c))
-    (tested : test ≡ as_great most x) where
+-- one row more: `test` says whether its size is as great as that of the best so far
+module _ {n c best r : ℕ} {A : ℕ → ℕ → Float} {test : Bool} (s : Pivoting n A c best r) (more : r < n)
+    (tested : test ≡ as_great (abs (A best c)) (abs (A r c))) where
   next : pivot_row rounded A c (r + 1 - (c + 1)) ≡ cond test r best
   unfolding pivot_row
   next =
       let y : r + 1 - (c + 1) ≡ suc (r - (c + 1)) = omega (arith, s.below) in
       let z : c + suc (r - (c + 1)) ≡ r = omega (arith, s.below) in
-      rw (y, z, ← s.is, ← s.size, ← size, ← tested)
+      rw (y, z, ← s.is, ← tested)
 
   -- it is taken where it is
-  pub pivoting-taken : {best' : ℕ} {most' : Float} → test ≡ true → best' ≡ r → most' ≡ x → Pivoting n A c best' most' (r + 1)
-  pivoting-taken h b m =
-      record {
-        below = omega (arith, s.below);
-        within = omega arith;
-        row = omega arith;
-        is = b ∙ sym (rw h at next);
-        size = m ∙ size ∙ ap (λ r. abs (A r c)) (sym b);
-      }
+  pub pivoting-taken : {best' : ℕ} → test ≡ true → best' ≡ r → Pivoting n A c best' (r + 1)
+  pivoting-taken h b = record { below = omega (arith, s.below); within = omega arith; row = omega arith; is = b ∙ sym (rw h at next) }
 
   -- and the best stays where it is not
-  pub pivoting-left : {best' : ℕ} {most' : Float} → test ≡ false → best' ≡ best → most' ≡ most → Pivoting n A c best' most' (r + 1)
-  pivoting-left h b m =
-      record {
-        below = omega (arith, s.below);
-        within = omega arith;
-        row = omega (arith, s.row);
-        is = b ∙ sym (rw h at next);
-        size = m ∙ s.size ∙ ap (λ r. abs (A r c)) (sym b);
-      }
+  pub pivoting-left : {best' : ℕ} → test ≡ false → best' ≡ best → Pivoting n A c best' (r + 1)
+  pivoting-left h b = record { below = omega (arith, s.below); within = omega arith; row = omega (arith, s.row); is = b ∙ sym (rw h at next) }
 
 -- ---- its size is the greatest
 

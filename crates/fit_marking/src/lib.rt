@@ -19,7 +19,7 @@ pub fn row(table: &[u64], n: usize, x: usize) -> &[u64]
     &table[x * n..x * n + n]
 }
 
-// The sum of row x of a table of n columns.
+// The sum of row x of a table of n columns. Of the table, here and below, and not of the row: the definitions say a cell by its place in the table.
 fn row_sum(table: &[u64], n: usize, x: usize) -> u64
     requires { (x * n + n ≤ length table.now) × (sum_to n (cell_at n table.now x) ≤ 2 * counter_limit) }
     ensures { result ≡ sum_to n (cell_at n table.now x) }
@@ -56,6 +56,7 @@ impl PairTables<'_> {
     }
 
     // Whether a positive stay cell leads from x to a Calibrated state.
+    // That each state has a mark is asked here and below: a struct that lends the marks would owe, of each method that writes them, that its tables stay.
     fn leads_out(&self, marks: &[StateStatus], x: usize) -> bool
         requires { (x < self.now.states) × (self.now.states ≤ length marks.now) }
         ensures { result ≡ leads_out self.now.states self.now.stay.now marks.now x }
@@ -82,8 +83,8 @@ impl PairTables<'_> {
         requires { self.now.states ≤ length marks.old }
         ensures { FirstMarks self.now.states least self.now.stay.now self.now.moved.now marks.old marks.new }
     {
-        for x in 0..self.states {
-            marks[x] = self.first_mark(least, x);
+        for (x, mark) in marks[..self.states].iter_mut().enumerate() {
+            *mark = self.first_mark(least, x);
         }
     }
 
@@ -123,7 +124,7 @@ impl PairTables<'_> {
         ensures { Marked (cells_in self.now least) marks.old marks.new }
     {
         self.first_marks(least, marks);
-        // A fixed point has no index: `for` says less.
+        // No `for`: how many turns there are is not known before.
         while self.turn(marks) {}
     }
 }

@@ -4,7 +4,7 @@
 ghost use Rattle.std.specs.Prelude.{◌≡◌};
 ghost use Rattle.fit_rounds.specs.Rounds.{wrong_rounds};
 
-// How many rounds a fit makes. Any words may stand in it; the fit judges them.
+// How many rounds a fit makes. Any words may stand in it; `are_wrong` judges them.
 #[derive(Clone, Copy)]
 pub struct Rounds {
     // Most rounds of the series.

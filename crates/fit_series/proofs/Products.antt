@@ -8,7 +8,6 @@ use lib.ListN.{length, set, length-set, replicate}
 use lib.Seq.{get_or-set_same, get_or-set_other}
 use lib.Ieee.{Float, nan, binary64, add, mul}
 use borrow.Author.Count.{below_more}
-use native.Mathlib.Numerals.{add-one}
 use Rattle.floats.specs.Floats.{neg_zero}
 use Rattle.std.proofs.lemmas.List.{get_or-replicate, length-replicate}
 use Rattle.basics.proofs.Tests.{row_in}
@@ -47,13 +46,6 @@ module _ {rows i w j k r : ℕ} {l sums : List Float} (d : Dotting rows i w j l 
         ∙ ap (λ s. add binary64 s (mul binary64 (float_at l (i + r * w + k)) (float_at l (j + k)))) (d.ahead r (omega arith) h));
     ahead = λ q g h. let o : q ≢ r = omega arith in get_or-set_other sums r q x nan o ∙ d.ahead q (omega arith) h;
   }
-
-  -- one product more in each
-  pub dotting-next : rows ≤ r → Dotting rows i w j l (k + 1) 0 sums
-  dotting-next h = rw add-one (record { as_many = d.as_many; done = λ q g. absurd (omega arith); ahead = λ q g f. d.done q (omega arith) })
-
-pub dotting-all : {rows i w j k : ℕ} {l sums : List Float} → Dotting rows i w j l k 0 sums → Dots rows i w j k l sums
-dotting-all d = record { as_many = d.as_many; each = λ q h. d.ahead q (omega arith) h }
 
 module _ (n v : ℕ) {r : ℕ} {l m : List Float} (before : v + n ≤ next_at n) (p : ProductTo n v r l m) where
   -- a row of B at its place, and the vector: what is before next is as it was

@@ -1,6 +1,6 @@
 -- Rounds of the series and of the share, in scratch.
 use Prim.Native.Nat.{ℕ, suc, ◌+◌, ◌-◌, ◌*◌, ◌<◌, ◌≤◌}
-use mathlib.Core.Path.{◌≡◌, refl, sym, ap, ◌∙◌}
+use mathlib.Core.Path.{◌≡◌, refl, ap, ◌∙◌}
 use mathlib.Core.Bool.{true, false, cond}
 use mathlib.Core.List.{List}
 use mathlib.Core.Logic.{inl, inr, ⊎_elim}
@@ -33,10 +33,6 @@ column-read {n} h g r =
       inside = λ k q. omega (arith, row_in k n (width n) q);
       unwritten = λ k q. inl (omega (arith, row_in k n (width n) q));
     }
-
--- a part, into itself or one before it
-pub part-read : {n a to : ℕ} {l : List Float} → to ≤ a → a + n ≤ length l → Column n 1 a to l
-part-read h r = record { enough = omega arith; inside = λ k q. omega arith; unwritten = λ k q. inr (omega arith) }
 
 one-wide : (l : List Float) (k a : ℕ) → rows_of 1 l k a ≡ from a l k
 one-wide l k a = let e : k * 1 + a ≡ a + k = omega arith in ap (float_at l) e
@@ -265,20 +261,6 @@ sum-started {n} {rounds} {l} {m₁} {m₂} {m₃} {x} s t e =
 
 -- ---- rounds of the share
 
--- one round: the product, and F plus it
-pub share-round : {n : ℕ} {l m₁ m₂ : List Float} → ProductTo n (share_at n) n l m₁
-    → Filled (share_at n) n (λ k. add binary64 (rows_of (width n) m₁ k (n + 1)) (from (next_at n) m₁ k)) m₁ m₂
-    → Shared n 1 (plus rounded (solved_f n l) (times rounded n (solved_b n l) (from (share_at n) l))) (times rounded n (solved_b n l) (from (share_at n) l)) l m₂
-share-round {n} {l} {m₁} p a =
-    record {
-      shares = λ k h. a.cells k h ∙ rw (F k h, p.cells k h);
-      nexts = λ k h. a.elsewhere (next_at n + k) (inr (omega arith)) ∙ p.cells k h;
-      elsewhere = λ i h g. a.elsewhere i h ∙ p.elsewhere i g;
-    }
-  where
-    F : (k : ℕ) → k < n → rows_of (width n) m₁ k (n + 1) ≡ solved_f n l k
-    F k h = p.elsewhere (k * width n + (n + 1)) (inl (omega (arith, row_in k n (width n) h)))
-
 pub shares-none : {n : ℕ} {l : List Float} → SameVector n (from (share_at n) l) (solved_f n l)
     → Shared n 0 (share_after rounded n (solved_b n l) (solved_f n l) 0) (last_product n (solved_b n l) (solved_f n l) 0) l l
 unfolding share_after
@@ -308,10 +290,6 @@ shares-more {n} {done} {l} {m} s r =
     product : SameVector n (times rounded n (solved_b n m) (from (share_at n) m))
         (times rounded n (solved_b n l) (share_after rounded n (solved_b n l) (solved_f n l) done))
     product i h = dot-same rounded n _ _ _ _ (λ j g. same-B n l m rows i j h g) s.shares
-
--- F copied to share
-pub share-copied : {n : ℕ} {l m : List Float} → Filled (share_at n) n (λ k. rows_of (width n) l k (n + 1)) l m → SameVector n (from (share_at n) m) (solved_f n m)
-share-copied {n} c k h = c.cells k h ∙ sym (c.elsewhere (k * width n + (n + 1)) (inl (omega (arith, row_in k n (width n) h))))
 
 -- what the rounds leave, given by vectors that agree
 shared_same : {n rounds : ℕ} {u p u' p' : ℕ → Float} {l m : List Float} → SameVector n u u' → SameVector n p p' → Shared n rounds u p l m

@@ -1,2 +1,3 @@
 pub mod Series
 pub mod Inner
+pub mod InnerLent

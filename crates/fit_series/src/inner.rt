@@ -11,47 +11,7 @@ ghost use Rattle.fit_series.specs.Inner.{width, sum_at, share_at, term_at, next_
 
 use super::NotConverged;
 
-// Where the vectors of n states stand in their scratch, behind the rows.
-#[derive(Clone, Copy)]
-struct Layout {
-    n: usize,
-    ghost few: { n ≤ 256 },
-}
-
-impl Layout {
-    // The width of a row.
-    fn width(self) -> usize
-        ensures { result ≡ width self.n }
-    {
-        2 * self.n + 2
-    }
-
-    fn sum(self) -> usize
-        ensures { result ≡ sum_at self.n }
-    {
-        self.n * self.width()
-    }
-
-    fn share(self) -> usize
-        ensures { result ≡ share_at self.n }
-    {
-        self.sum() + self.n
-    }
-
-    fn term(self) -> usize
-        ensures { result ≡ term_at self.n }
-    {
-        self.sum() + 2 * self.n
-    }
-
-    fn next(self) -> usize
-        ensures { result ≡ next_at self.n }
-    {
-        self.sum() + 3 * self.n
-    }
-}
-
-// The dot products of R rows, w apart from i on, with n floats from j on: side by side, each left to right.
+// The dot products of R rows, w apart from i on, with n floats from j on: side by side, each left to right. By index, since the rows are parts of one slice.
 fn dots<const R: usize>(s: &[f64], i: usize, w: usize, j: usize, n: usize) -> [f64; R]
     requires { (0 < R) × (R ≤ 4) × (i + (R - 1) * w + n ≤ length s.now) × (j + n ≤ length s.now) }
     ensures { Dots R i w j n s.now result }
@@ -66,43 +26,7 @@ fn dots<const R: usize>(s: &[f64], i: usize, w: usize, j: usize, n: usize) -> [f
     sums
 }
 
-// R rows of B at a time, so many times from row `first` on, times the vector of n floats from v on, into next.
-fn multiply_rows<const R: usize>(s: &mut [f64], at: Layout, v: usize, first: usize, count: usize)
-    requires { (0 < R) × (R ≤ 4) × Scratch at.n s.old × (v + at.n ≤ next_at at.n) × (first + count * R ≤ at.n) }
-    ensures { (l : List Float) → ProductTo at.n v first l s.old → ProductTo at.n v (first + count * R) l s.new }
-{
-    let w = at.width();
-    let next = at.next();
-    for b in 0..count {
-        let r = first + b * R;
-        let sums = dots::<R>(s, r * w + (at.n + 2), w, v, at.n);
-        for q in 0..R {
-            s[next + r + q] = sums[q];
-        }
-    }
-}
-
-// B times the vector of n floats from v on, into next: four rows at a time, and the rest one by one.
-fn multiply(s: &mut [f64], at: Layout, v: usize)
-    requires { Scratch at.n s.old × (v + at.n ≤ next_at at.n) }
-    ensures { ProductTo at.n v at.n s.old s.new }
-{
-    let fours = at.n / 4;
-    multiply_rows::<4>(s, at, v, 0, fours);
-    multiply_rows::<1>(s, at, v, fours * 4, at.n % 4);
-}
-
-// n places from `to` on become column c of n rows of w. Apart from `add_column`: what one function would be given for each k reads the slice it writes.
-fn copy_column(s: &mut [f64], n: usize, w: usize, c: usize, to: usize)
-    requires { Column n w c to s.old }
-    ensures { Filled to n (λ k. rows_of w s.old k c) s.old s.new }
-{
-    for k in 0..n {
-        s[to + k] = s[k * w + c];
-    }
-}
-
-// n places from `to` on become column c of n rows of w plus the n places from v on.
+// n places from `to` on become column c of n rows of w plus the n places from v on. By index: it reads the slice that it writes.
 fn add_column(s: &mut [f64], n: usize, w: usize, c: usize, v: usize, to: usize)
     requires { Column n w c to s.old × (to + n ≤ v) × (v + n ≤ length s.old) }
     ensures { Filled to n (λ k. add binary64 (rows_of w s.old k c) (from v s.old k)) s.old s.new }
@@ -132,34 +56,173 @@ fn clamp_all(v: &mut [f64])
     }
 }
 
-// The next term, added on. Answers its largest size.
-fn add_term(s: &mut [f64], at: Layout) -> f64
-    requires { Scratch at.n s.old }
-    ensures { TermAdded at.n s.old result s.new }
-{
-    let term = at.term();
-    let next = at.next();
-    multiply(s, at, term);
-    s.copy_within(next..next + at.n, term);
-    add_column(s, at.n, 1, at.sum(), next, at.sum());
-    largest_of(&s[term..term + at.n])
+// The lent scratch of a fit of n states: the rows, and behind them the vectors. Their places are numbers, since a fit's memory is one lent slice (document 01).
+#[derive(Drop)]
+struct LentScratch<'a> {
+    floats: &'a mut [f64],
+    n: usize,
+    ghost fits: { Scratch n floats.now },
 }
 
-// Adds terms on to a sum.
-fn add_terms(s: &mut [f64], at: Layout, rounds: usize) -> Result<(), NotConverged>
-    requires { Scratch at.n s.old }
-    ensures { Summed at.n rounds (summed rounded at.n (solved_b at.n s.old) rounds (from (sum_at at.n) s.old) (from (term_at at.n) s.old)) s.old result s.new }
-{
-    for made in 0..rounds {
-        let largest = add_term(s, at);
-        if floats::is_infinite(largest) {
-            return Err(NotConverged);
-        }
-        if largest < 1e-12 {
-            return Ok(());
+impl LentScratch<'_> {
+    ghost use Rattle.fit_series.specs.InnerLent.{Changed};
+
+    // The width of a row.
+    fn width(&self) -> usize
+        ensures { result ≡ width self.now.n }
+    {
+        2 * self.n + 2
+    }
+
+    fn sum(&self) -> usize
+        ensures { result ≡ sum_at self.now.n }
+    {
+        self.n * self.width()
+    }
+
+    fn share(&self) -> usize
+        ensures { result ≡ share_at self.now.n }
+    {
+        self.sum() + self.n
+    }
+
+    fn term(&self) -> usize
+        ensures { result ≡ term_at self.now.n }
+    {
+        self.sum() + 2 * self.n
+    }
+
+    fn next(&self) -> usize
+        ensures { result ≡ next_at self.now.n }
+    {
+        self.sum() + 3 * self.n
+    }
+
+    // n places from `to` on become column c of the rows. Apart from `add_column`: what one function would be given for each k reads the slice it writes.
+    fn copy_column(&mut self, c: usize, to: usize)
+        requires { Column self.old.n (width self.old.n) c to self.old.floats.now }
+        ensures { Changed (λ n l m. Filled to n (λ k. rows_of (width n) l k c) l m) self.old self.new }
+    {
+        let w = self.width();
+        for k in 0..self.n {
+            self.floats[to + k] = self.floats[k * w + c];
         }
     }
-    Err(NotConverged)
+
+    // R rows of B at a time, so many times from row `first` on, times the vector of n floats from v on, into next. The sums are written one by one:
+    // `copy_from_slice` tests at each call whether they overlap the scratch, and a series of 27 states takes 2 to 3 in 100 longer.
+    fn multiply_rows<const R: usize>(&mut self, v: usize, first: usize, count: usize)
+        requires { (0 < R) × (R ≤ 4) × (v + self.old.n ≤ next_at self.old.n) × (first + count * R ≤ self.old.n) }
+        ensures { Changed (λ n l m. (k : List Float) → ProductTo n v first k l → ProductTo n v (first + count * R) k m) self.old self.new }
+    {
+        let n = self.n;
+        let w = self.width();
+        let next = self.next();
+        // In a variable: of `self.floats` it is not known what it holds once `dots` has read it.
+        let floats = &mut *self.floats;
+        for b in 0..count {
+            let r = first + b * R;
+            let sums = dots::<R>(floats, r * w + (n + 2), w, v, n);
+            for q in 0..R {
+                floats[next + r + q] = sums[q];
+            }
+        }
+    }
+
+    // B times the vector of n floats from v on, into next: four rows at a time, and the rest one by one. In line, so that a round of few states does not read
+    // the struct anew.
+    #[inline(always)]
+    fn multiply(&mut self, v: usize)
+        requires { v + self.old.n ≤ next_at self.old.n }
+        ensures { Changed (λ n l m. ProductTo n v n l m) self.old self.new }
+    {
+        let fours = self.n / 4;
+        self.multiply_rows::<4>(v, 0, fours);
+        self.multiply_rows::<1>(v, fours * 4, self.n % 4);
+    }
+
+    // The largest size of the term.
+    fn largest_term(&self) -> f64
+        ensures { result ≡ largest rounded self.now.n (from (term_at self.now.n) self.now.floats.now) }
+    {
+        let term = self.term();
+        largest_of(&self.floats[term..term + self.n])
+    }
+
+    // The next term, added on. Answers its largest size.
+    fn add_term(&mut self) -> f64
+        ensures { Changed (λ n l m. TermAdded n l result m) self.old self.new }
+    {
+        let n = self.n;
+        let sum = self.sum();
+        let term = self.term();
+        let next = self.next();
+        self.multiply(term);
+        self.floats.copy_within(next..next + n, term);
+        add_column(self.floats, n, 1, sum, next, sum);
+        self.largest_term()
+    }
+
+    // Adds terms on to a sum.
+    fn add_terms(&mut self, rounds: usize) -> Result<(), NotConverged>
+        ensures { Changed (λ n l m. Summed n rounds (summed rounded n (solved_b n l) rounds (from (sum_at n) l) (from (term_at n) l)) l result m) self.old self.new }
+    {
+        for made in 0..rounds {
+            let largest = self.add_term();
+            if floats::is_infinite(largest) {
+                return Err(NotConverged);
+            }
+            if largest < 1e-12 {
+                return Ok(());
+            }
+        }
+        Err(NotConverged)
+    }
+
+    // One round of the share.
+    fn next_share(&mut self)
+        ensures { Changed (λ n l m. let p = times rounded n (solved_b n l) (from (share_at n) l) in Shared n 1 (plus rounded (solved_f n l) p) p l m) self.old self.new }
+    {
+        let n = self.n;
+        let w = self.width();
+        let share = self.share();
+        let next = self.next();
+        self.multiply(share);
+        add_column(self.floats, n, w, n + 1, next, share);
+    }
+
+    // Rounds of the share, from F.
+    fn add_shares(&mut self, rounds: usize)
+        requires { (k : ℕ) → k < self.old.n → from (share_at self.old.n) self.old.floats.now k ≡ solved_f self.old.n self.old.floats.now k }
+        ensures { Changed (λ n l m. let B = solved_b n l in let F = solved_f n l in
+            Shared n rounds (share_after rounded n B F rounds) (last_product n B F rounds) l m) self.old self.new }
+    {
+        for done in 0..rounds {
+            self.next_share();
+        }
+    }
+
+    // The series from G1.
+    fn sum_series(&mut self, rounds: usize) -> Result<(), NotConverged>
+        ensures { Changed (λ n l m. Summed n rounds (sum_series rounded n (solved_b n l) (solved_g1 n l) rounds) l result m) self.old self.new }
+    {
+        let n = self.n;
+        self.copy_column(n, self.sum());
+        self.copy_column(n, self.term());
+        self.add_terms(rounds)
+    }
+
+    // The share after so many rounds, clamped to 0..1.
+    fn fallback_within(&mut self, rounds: usize)
+        ensures { Changed (λ n l m. let B = solved_b n l in let F = solved_f n l in
+            Shared n rounds (fallback_within rounded n B F rounds) (last_product n B F rounds) l m) self.old self.new }
+    {
+        let n = self.n;
+        let share = self.share();
+        self.copy_column(n + 1, share);
+        self.add_shares(rounds);
+        clamp_all(&mut self.floats[share..share + n]);
+    }
 }
 
 // The series from G1, with at most so many rounds (document 01: 10,000).
@@ -167,30 +230,8 @@ pub fn sum_series(scratch: &mut [f64], n: usize, rounds: usize) -> Result<(), No
     requires { Scratch n scratch.old }
     ensures { Summed n rounds (sum_series rounded n (solved_b n scratch.old) (solved_g1 n scratch.old) rounds) scratch.old result scratch.new }
 {
-    let at = Layout { n };
-    copy_column(scratch, n, at.width(), n, at.sum());
-    copy_column(scratch, n, at.width(), n, at.term());
-    add_terms(scratch, at, rounds)
-}
-
-// One round of the share.
-fn next_share(s: &mut [f64], at: Layout)
-    requires { Scratch at.n s.old }
-    ensures { let p = times rounded at.n (solved_b at.n s.old) (from (share_at at.n) s.old) in Shared at.n 1 (plus rounded (solved_f at.n s.old) p) p s.old s.new }
-{
-    multiply(s, at, at.share());
-    add_column(s, at.n, at.width(), at.n + 1, at.next(), at.share());
-}
-
-// Rounds of the share, from F.
-fn add_shares(s: &mut [f64], at: Layout, rounds: usize)
-    requires { Scratch at.n s.old × ((k : ℕ) → k < at.n → from (share_at at.n) s.old k ≡ solved_f at.n s.old k) }
-    ensures { let B = solved_b at.n s.old in let F = solved_f at.n s.old in
-        Shared at.n rounds (share_after rounded at.n B F rounds) (last_product at.n B F rounds) s.old s.new }
-{
-    for done in 0..rounds {
-        next_share(s, at);
-    }
+    let mut lent = LentScratch { floats: scratch, n };
+    lent.sum_series(rounds)
 }
 
 // The probability of reaching a fallback state within so many moves of the mid (document 01: 10).
@@ -199,9 +240,6 @@ pub fn fallback_within_moves(scratch: &mut [f64], n: usize, rounds: usize)
     ensures { let B = solved_b n scratch.old in let F = solved_f n scratch.old in
         Shared n rounds (fallback_within rounded n B F rounds) (last_product n B F rounds) scratch.old scratch.new }
 {
-    let at = Layout { n };
-    let share = at.share();
-    copy_column(scratch, n, at.width(), n + 1, share);
-    add_shares(scratch, at, rounds);
-    clamp_all(&mut scratch[share..share + n]);
+    let mut lent = LentScratch { floats: scratch, n };
+    lent.fallback_within(rounds);
 }

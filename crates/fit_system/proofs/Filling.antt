@@ -10,16 +10,22 @@ use native.Mathlib.Omega.{arith}
 use borrow.Author.Tests.{lt-ltb, le-ltb, eq-eqb, ne_eqb}
 use lib.Dec.{eqb}
 use lib.IntN.{ℤ, pos}
-use lib.ListN.{length, get_or, set, length-set}
+use lib.ListN.{length, get_or, set, length-set, take}
 use lib.Seq.{get_or-set_same, get_or-set_other}
 use lib.Ieee.{Float, nan, binary64, in_float, sub, neg}
 use Rattle.basics.proofs.Tests.{le-or-lt}
+use borrow.Rule.Slice.PartMut.{put_mid}
 use Rattle.std.specs.Prelude.{Option, IfSome}
+use Rattle.std.specs.List.{between, enumerate_from}
+use Rattle.std.proofs.lemmas.List.{length-take, get_or-take, get_or_default}
+use Rattle.std.proofs.lemmas.List.FromFn.{length-enumerate_from, get_or-enumerate_from}
+use Rattle.std.proofs.lemmas.List.Edits.{length-between}
 use Rattle.floats.specs.Floats.{pos_zero, one, exact_whole}
 use Rattle.model.specs.Status.{is_calibrated}
 use Rattle.model.specs.declared.StateStatus.{StateStatus}
+use Rattle.model.specs.declared.StateStatus.TheVariants.{Calibrated}
 use Rattle.basics.specs.Lists.{cell_at}
-use Rattle.fit_marking.specs.Marks.{Cells, cells_of, observations, mark_of}
+use Rattle.fit_marking.specs.Marks.{Cells, cells_of, observations, mark_of, mark_at}
 use Rattle.fit_marking.specs.Below.{sum_to}
 use Rattle.fit_marking.specs.Inner.{row_of}
 use Rattle.fit_marking.proofs.Below.{sum_more, sum-part}
@@ -28,7 +34,7 @@ use Rattle.fit_linear.specs.Arithmetic.{rounded}
 use Rattle.fit_linear.specs.Elimination.{system}
 use Rattle.fit_linear.specs.Inner.{float_at, from, Becomes, Filled}
 use Rattle.fit_series.specs.Inner.{width}
-use Rattle.fit_linear.proofs.Parts.{outside-row}
+use Rattle.fit_linear.proofs.Parts.{outside-row, filled-part}
 use Rattle.fit_system.specs.Inner.{Exact, AllExact, observed_in, part_by, fallback_by, stay_part, moved_part}
 use Rattle.fit_system.specs.Rows.{total_of, used, part, Q, T, K, fallback, system_of}
 
@@ -192,12 +198,19 @@ row-by-parts n least x o mark stay moved totals {l} {m} {e} {t} {f} marked is-o 
     (is-o ∙ sym (any-least n least stay moved x))
     l m e t f left (omega arith) is-t is_f right
 
--- a part of a row whose cells are those of the table
-part-of-row : {base n : ℕ} (row : List ℕ) {v w : ℕ → Float} {l m : List Float} → length row ≡ n → ((k : ℕ) → k < n → v k ≡ w k)
-    → Filled base (length row) v l m → Filled base n w l m
-part-of-row {base} {n} row {v} {w} {l} {m} e same f =
-    let g : Filled base n v l m = rw e at f in
-    record { cells = λ k h. g.cells k h ∙ same k h; elsewhere = g.elsewhere }
+-- n places from base on, and what is written there
+pub length-here : (base n : ℕ) (l : List Float) → base + n ≤ length l → length (between base (base + n) l) ≡ n
+length-here base n l h = length-between l base (base + n) h ∙ omega arith
+
+pub filled-here : (base n : ℕ) (l part : List Float) {v : ℕ → Float} → base + n ≤ length l → length part ≡ n
+    → ((k : ℕ) → k < length (between base (base + n) l) → float_at part k ≡ v k) → Filled base n v l (put_mid base (base + n - base) l part)
+filled-here base n l part h e c =
+    let all : base + n - base ≡ n = omega arith in
+    rw all (filled-part base n l part h e (λ k g. c k (rw (length-here base n l h) g)))
+
+-- a part of a row by another name of its cells
+part-of-row : {base n : ℕ} {v w : ℕ → Float} {l m : List Float} → ((k : ℕ) → k < n → v k ≡ w k) → Filled base n v l m → Filled base n w l m
+part-of-row same f = record { cells = λ k h. f.cells k h ∙ same k h; elsewhere = f.elsewhere }
 
 -- a part by what the functions take
 parts : (u : Bool) (o : ℕ) (z : ℤ) → part_by (observed_in u o) z ≡ part u z o
@@ -217,11 +230,11 @@ pub row-by-lists : (n least x : ℕ) (mark : StateStatus) (stay moved : List ℕ
     → observed ≡ observed_in (is_calibrated mark) (observations (cells_of n 0 stay moved) x)
     → stays ≡ row_of n stay x
     → moves ≡ row_of n moved x
-    → Filled (x * width n) (length stays) (stay_part stays x observed) l m
+    → Filled (x * width n) n (stay_part stays x observed) l m
     → x * width n + width n ≤ length m
     → t ≡ part_by observed (total_of totals x)
     → f ≡ fallback_by observed
-    → Filled (x * width n + (n + 2)) (length moves) (moved_part moves observed) (set (set m (x * width n + n) t) (x * width n + (n + 1)) f) e
+    → Filled (x * width n + (n + 2)) n (moved_part moves observed) (set (set m (x * width n + n) t) (x * width n + (n + 1)) f) e
     → Filled (x * width n) (width n) (system_of (cells_of n least stay moved) (total_of totals) x) l e
 row-by-lists n least x mark stay moved totals observed stays moves {l} {m} {e} {t} {f} exact marked is-o is-stay is-moved left long is-t is_f right =
     let u = is_calibrated mark in
@@ -231,18 +244,15 @@ row-by-lists n least x mark stay moved totals observed stays moves {l} {m} {e} {
     let at-moved : (k : ℕ) → k < n → get_or moves k 0 ≡ cell_at n moved x k = λ k h. ap (λ r. get_or r k 0) is-moved ∙ row-at n moved x k h in
     let less : ℕ → Float → Float = λ k q. cond (eqb x k) (sub binary64 one q) (neg q) in
     row-by-parts n least x o mark stay moved totals marked refl
-    (part-of-row stays (ap length is-stay ∙ length-row n stay x exact.stay-in)
+    (part-of-row
     (λ k h. ap (λ c. less k (part_by observed (pos c))) (at-stay k h) ∙ ap (less k) (p (pos (cell_at n stay x k)))) left)
     long
     (is-t ∙ p (total_of totals x))
     (is_f ∙ ap fallback_by is-o ∙ fallbacks u o)
-    (part-of-row moves (ap length is-moved ∙ length-row n moved x exact.moved_in)
+    (part-of-row
     (λ k h. ap (λ c. part_by observed (pos c)) (at-moved k h) ∙ p (pos (cell_at n moved x k))) right)
 
 -- ---- rows one after another
-
-pub rows_none : {w : ℕ} {A : ℕ → ℕ → Float} {l : List Float} → Becomes 0 w A l l
-rows_none = record { cells = λ r k h g. absurd (omega arith); elsewhere = λ i h. refl }
 
 pub rows_more : (x w : ℕ) (A : ℕ → ℕ → Float) (l m e : List Float) → Becomes x w A l m → Filled (x * w) w (A x) m e → Becomes (x + 1) w A l e
 rows_more x w A l m e b f =
@@ -257,3 +267,22 @@ rows_more x w A l m e b f =
   where
     next : (x + 1) * w ≡ x * w + w
     next = rw add-one (suc-mul x w)
+
+-- ---- the first n marks, each with its number
+
+pub record MarkGiven (n k x : ℕ) (mark : StateStatus) (marks : List StateStatus) : Type 0 where
+  pub below : k < n
+  pub number-is : x ≡ k
+  pub mark-is : mark ≡ mark_at marks k
+
+pub mark-given : {n k x : ℕ} {mark : StateStatus} {marks : List StateStatus}
+    → (k < length (take n (enumerate_from 0 marks))) × ((x, mark) ≡ get_or (take n (enumerate_from 0 marks)) k (x, mark)) → MarkGiven n k x mark marks
+mark-given {n} {k} {x} {mark} {marks} t =
+    let below : k < n = omega (arith, length-take n (enumerate_from 0 marks)) in
+    let long : k < length marks = omega (arith, length-take n (enumerate_from 0 marks), length-enumerate_from 0 marks) in
+    let e = t.1 ∙ get_or-take n (enumerate_from 0 marks) k (x, mark) below ∙ get_or-enumerate_from 0 marks k (x, mark) long in
+    let number : x ≡ 0 + k = ap (λ p. p.0) e in
+    record { below = below; number-is = omega arith; mark-is = ap (λ p. p.1) e ∙ get_or_default marks k mark Calibrated long }
+
+pub marks-given : (n : ℕ) (marks : List StateStatus) → n ≤ length marks → length (take n (enumerate_from 0 marks)) ≡ n
+marks-given n marks h = omega (arith, length-take n (enumerate_from 0 marks), length-enumerate_from 0 marks)

@@ -8,17 +8,19 @@ ghost use Rattle.std.specs.Float.Ieee.{sub, neg};
 ghost use Rattle.floats.specs.Floats.{one, exact_whole, from_int};
 ghost use Rattle.model.specs.Status.{is_calibrated};
 ghost use Rattle.fit_marking.specs.Marks.{observations, mark_of};
-ghost use Rattle.fit_linear.specs.Inner.{Becomes, Filled};
+ghost use Rattle.fit_linear.specs.Inner.{float_at, Becomes, Filled};
 ghost use Rattle.fit_series.specs.Inner.{Scratch, width};
 ghost use Rattle.fit_system.specs.Rows.{system_of, total_of};
 ghost use Rattle.fit_system.specs.Inner.{Exact, AllExact, observed_in, part_by, fallback_by, stay_part, moved_part, Marks, SolvedIn};
 ghost use Rattle.fit_system.specs.Solution.{solution_of};
 
 use fit_marking::PairTables;
+use fit_rounds::Rounds;
 use model::StateStatus;
 use refusals::Refusal;
 
-// A number of a row by its observations; zero for a fallback state, which has none.
+// A number of a row by its observations; zero for a fallback state, which has none. That the observations are exact is a clause here and
+// below: as a float, each function would be given of which number it is one.
 fn part_of(number: f64, observed: Option<u64>) -> f64
     requires { IfSome observed (λ o. o ≤ exact_whole) }
     ensures { (z : ℤ) → number ≡ from_int z → result ≡ part_by observed z }
@@ -49,25 +51,24 @@ fn fallback_of(observed: Option<u64>) -> f64
     }
 }
 
-// 1 − Q of row x, by its stay cells, into as many places from `to` on.
-fn fill_stay(cells: &[u64], x: usize, observed: Option<u64>, scratch: &mut [f64], to: usize)
-    requires { AllExact cells.now × IfSome observed (λ o. o ≤ exact_whole) × (to + length cells.now ≤ length scratch.old) }
-    ensures { Filled to (length cells.now) (stay_part cells.now x observed) scratch.old scratch.new }
+// 1 − Q of row x, by its stay cells. They are read by index: of what a `zip` over `iter_mut` writes, no clause of the library says anything.
+fn fill_stay(cells: &[u64], x: usize, observed: Option<u64>, out: &mut [f64])
+    requires { AllExact cells.now × IfSome observed (λ o. o ≤ exact_whole) × (length out.old ≡ length cells.now) }
+    ensures { (k : ℕ) → k < length out.old → float_at out.new k ≡ stay_part cells.now x observed k }
 {
-    for (k, cell) in cells.iter().enumerate() {
-        let q = part_of(floats::inner::from_u64(*cell), observed);
-        scratch[to + k] = less_stay(x == k, q);
+    for (k, place) in out.iter_mut().enumerate() {
+        let q = part_of(floats::inner::from_u64(cells[k]), observed);
+        *place = less_stay(x == k, q);
     }
 }
 
-// T of a row, by its moved cells, into as many places from `to` on. Apart from `fill_stay`, which stores 1 − Q by the row's own place: they differ in no type or
-// constant.
-fn fill_moved(cells: &[u64], observed: Option<u64>, scratch: &mut [f64], to: usize)
-    requires { AllExact cells.now × IfSome observed (λ o. o ≤ exact_whole) × (to + length cells.now ≤ length scratch.old) }
-    ensures { Filled to (length cells.now) (moved_part cells.now observed) scratch.old scratch.new }
+// T of a row, by its moved cells. Apart from `fill_stay`: with a closure for a cell, one function's clause would name what the closure promises of each k.
+fn fill_moved(cells: &[u64], observed: Option<u64>, out: &mut [f64])
+    requires { AllExact cells.now × IfSome observed (λ o. o ≤ exact_whole) × (length out.old ≡ length cells.now) }
+    ensures { (k : ℕ) → k < length out.old → float_at out.new k ≡ moved_part cells.now observed k }
 {
-    for (k, cell) in cells.iter().enumerate() {
-        scratch[to + k] = part_of(floats::inner::from_u64(*cell), observed);
+    for (k, place) in out.iter_mut().enumerate() {
+        *place = part_of(floats::inner::from_u64(cells[k]), observed);
     }
 }
 
@@ -113,44 +114,46 @@ impl FitTables<'_> {
         let start = x * (2 * n + 2);
         let stay = fit_marking::row(self.pairs.stay, n, x);
         let moved = fit_marking::row(self.pairs.moved, n, x);
-        fill_stay(stay, x, observed, scratch, start);
+        fill_stay(stay, x, observed, &mut scratch[start..start + n]);
         scratch[start + n] = part_of(total, observed);
         scratch[start + (n + 1)] = fallback_of(observed);
-        fill_moved(moved, observed, scratch, start + (n + 2));
+        let after = start + (n + 2);
+        fill_moved(moved, observed, &mut scratch[after..after + n]);
     }
 
     // The system, in n rows of 2 n + 2.
     fn fill_system(&self, marks: &[StateStatus], scratch: &mut [f64])
-        requires { let n = self.now.pairs.states in (n ≤ length marks.now) × (n * width n ≤ length scratch.old) }
+        requires { let n = self.now.pairs.states in n * width n ≤ length scratch.old }
         ensures { (least : ℕ) → let C = cells_in self.now.pairs least in Marks C marks.now
             → Becomes C.states (width C.states) (system_of C (total_of self.now.move_half_ticks.now)) scratch.old scratch.new }
     {
-        for x in 0..self.pairs.states {
-            self.fill_row(marks[x], x, scratch);
+        for (x, mark) in marks.iter().enumerate().take(self.pairs.states) {
+            self.fill_row(*mark, x, scratch);
         }
     }
 
     // Fills the system, solves it, sums the series and takes the share, in scratch.
+    // That the marks are those of the cells stands in what is ensured, here and in `fill_system`: in a struct it would be asked of each caller.
     pub fn solve_system(
         &self,
         marks: &[StateStatus],
-        rounds: usize,
-        moves: usize,
+        rounds: Rounds,
         scratch: &mut [f64],
     ) -> Result<(), Refusal>
-        requires { let n = self.now.pairs.states in (n ≤ length marks.now) × Scratch n scratch.old }
+        requires { Scratch self.now.pairs.states scratch.old }
         ensures { (least : ℕ) → let C = cells_in self.now.pairs least in Marks C marks.now
-            → SolvedIn C.states (solution_of rounds moves C (total_of self.now.move_half_ticks.now)) result scratch.new }
+            → SolvedIn C.states (solution_of rounds.series rounds.fallback C (total_of self.now.move_half_ticks.now)) result scratch.new }
     {
         let n = self.pairs.states;
         self.fill_system(marks, scratch);
+        // By `else`, and no `map_err`: the proof would take each answer apart once more.
         let Ok(()) = fit_linear::inner::gauss_jordan(scratch, n, 2 * n + 2) else {
             return Err(Refusal::SingularTransitions);
         };
-        let Ok(()) = fit_series::inner::sum_series(scratch, n, rounds) else {
+        let Ok(()) = fit_series::inner::sum_series(scratch, n, rounds.series as usize) else {
             return Err(Refusal::NotConverged);
         };
-        fit_series::inner::fallback_within_moves(scratch, n, moves);
+        fit_series::inner::fallback_within_moves(scratch, n, rounds.fallback as usize);
         Ok(())
     }
 }

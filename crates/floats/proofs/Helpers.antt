@@ -1,19 +1,18 @@
 -- What the tests of the helpers say of a float.
 use mathlib.Core.Path.{◌≡◌, refl, sym, ap, ◌∙◌}
-use mathlib.Core.Bool.{Bool, true, false, not, ◌||◌, true≢false, false≢true}
-use Prim.Native.Nat.{ℕ, zero, suc, ◌*◌, ◌%◌, ◌<◌, ◌≤◌}
+use mathlib.Core.Bool.{Bool, true, false, ◌||◌, true≢false, false≢true}
+use Prim.Native.Nat.{ℕ, zero, suc, ◌*◌, ◌<◌}
 use native.Mathlib.Nat.{zero-mul, mul-pos, zero-lt-suc}
 use native.Mathlib.Omega.{arith}
-use borrow.Author.Tests.{eqb-true, lt-ltb, le-ltb}
+use borrow.Author.Tests.{eqb-true}
 use lib.IntN.{ℤ, pos}
 use lib.Dec.{T}
-use lib.Ieee.{Float, nan, inf, fin, binary64, up, down, div, lt, eq, fits, of_bits, to_bits, is_nan, nan_bits}
+use lib.Ieee.{Float, nan, inf, fin, binary64, up, down, lt, eq, fits, of_bits, is_nan}
 use lib.Ieee.Fits.{up_pos}
-use lib.Ieee.Bits.{nan_bits_is, nan_bits_above}
 use lib.Ieee.Scale.{finite}
 use Rattle.std.specs.Float.{float_with_sign, float_is_infinite, float_is_finite}
 use Rattle.basics.proofs.Tests.{both}
-use Rattle.floats.specs.Floats.{pos_zero, two, abs, max, is_infinite, plus_zero, bits_of, from_bits, from_int, half}
+use Rattle.floats.specs.Floats.{pos_zero, abs, max, is_infinite, plus_zero}
 use Rattle.floats.proofs.Signs.{zero_exp}
 
 -- ---- compared with zero
@@ -77,27 +76,3 @@ unfolding max is_nan
 max_first nan y h = absurd (true≢false h)
 max_first (inf s) y h = rw h
 max_first (fin s m e) y h = rw h
-
--- ---- half of a number of units
-
-pub half_is : (x : Float) (n : ℕ) → x ≡ from_int (pos n) → div binary64 x two ≡ half n
-unfolding half
-half_is x n h = ap (λ (y : Float). div binary64 y two) h
-
--- ---- bits
-
-is-nan : (x : Float) → is_nan x ≡ true → x ≡ nan
-unfolding is_nan
-is-nan nan h = refl
-is-nan (inf s) h = absurd (false≢true h)
-is-nan (fin s m e) h = absurd (false≢true h)
-
-pub nan_pattern : (x : Float) → is_nan x ≡ true → 0x7ff8_0000_0000_0000 ≡ bits_of x
-unfolding to_bits
-nan_pattern x h = rw (is-nan x h)
-
-pub pattern_nan : (b : ℕ) → 0x7ff0_0000_0000_0000 < b % 0x8000_0000_0000_0000 → from_bits b ≡ nan
-pattern_nan b h = is-nan (from_bits b) (sym (nan_bits_is binary64 b) ∙ nan_bits_above binary64 b ∙ lt-ltb _ _ h)
-
-pub pattern_no_nan : (b : ℕ) → b % 0x8000_0000_0000_0000 ≤ 0x7ff0_0000_0000_0000 → T (not (nan_bits binary64 b))
-pattern_no_nan b h = rw (nan_bits_above binary64 b, le-ltb _ _ h) tt

@@ -12,7 +12,7 @@ pub fn from_u64(n: u64) -> f64
     n as f64
 }
 
-// A whole number of either sign as a float, exactly: from -2^53 to 2^53.
+// A whole number of either sign as a float, exactly: from -2^53 to 2^53. Apart from `from_u64`: one for both would need a trait with each type's condition.
 pub fn from_i64(n: i64) -> f64
     requires { in_float binary64 n ≡ true }
     ensures { result ≡ from_int n }
@@ -21,7 +21,7 @@ pub fn from_i64(n: i64) -> f64
 }
 
 // Half a tick.
-#[tactic(auto, using(crate::proofs::Helpers::half_is))]
+#[tactic(auto, unfolding(crate::specs::Floats::half))]
 pub fn half_tick(tick: u64) -> f64
     requires { tick ≤ exact_whole }
     ensures { result ≡ half_tick tick }
@@ -30,7 +30,7 @@ pub fn half_tick(tick: u64) -> f64
 }
 
 // Half a spread of so many ticks.
-#[tactic(auto, using(crate::proofs::Helpers::half_is))]
+#[tactic(auto, unfolding(crate::specs::Floats::half))]
 pub fn half_spread(tick_size: u64, spread_ticks: u64) -> f64
     requires { tick_size * spread_ticks ≤ exact_whole }
     ensures { result ≡ half_spread tick_size spread_ticks }

@@ -7,6 +7,8 @@ ghost use Rattle.std.specs.Prelude.{◌≡◌};
 ghost use Rattle.std.specs.Float.Ieee.Scale.{finite};
 ghost use Rattle.floats.specs.Floats as Floats;
 
+use std::num::{f64_from_bits_with_nan, f64_to_bits_with_nan};
+
 // The size of a float.
 #[tactic(auto, using(crate::proofs::Helpers::abs_is))]
 pub fn abs(x: f64) -> f64
@@ -23,7 +25,7 @@ pub fn as_great(x: f64, y: f64) -> bool
     y.is_nan() | (x <= y)
 }
 
-// The larger of two; NaN is passed over.
+// The larger of two; NaN is passed over. The library's `max` may answer either of two that are equal, as 0 and -0; this the first.
 #[tactic(auto, using(crate::proofs::Helpers::max_second, crate::proofs::Helpers::max_first))]
 pub fn max(x: f64, y: f64) -> f64
     ensures { result ≡ Floats.max x y }
@@ -60,26 +62,16 @@ pub fn plus_zero(x: f64) -> f64
     if x == 0.0 { 0.0 } else { x }
 }
 
-// The bits, any NaN's as one pattern: the machine's NaN may have any.
-#[tactic(auto, using(crate::proofs::Helpers::nan_pattern))]
+// The bits, any NaN's as one pattern: the machine's NaN may have any, and `f64::to_bits` asks that there is none.
 pub fn to_bits(x: f64) -> u64
     ensures { result ≡ Floats.bits_of x }
 {
-    if x.is_nan() {
-        0x7ff8_0000_0000_0000
-    } else {
-        x.to_bits()
-    }
+    f64_to_bits_with_nan(x)
 }
 
-// The float of any bits; every NaN pattern is NaN.
-#[tactic(auto, using(crate::proofs::Helpers::pattern_nan, crate::proofs::Helpers::pattern_no_nan))]
+// The float of any bits; every NaN pattern is NaN, of which `f64::from_bits` asks that there is none.
 pub fn from_bits(bits: u64) -> f64
     ensures { result ≡ Floats.from_bits bits }
 {
-    if 0x7ff0_0000_0000_0000 < bits % 0x8000_0000_0000_0000 {
-        f64::NAN
-    } else {
-        f64::from_bits(bits)
-    }
+    f64_from_bits_with_nan(bits)
 }

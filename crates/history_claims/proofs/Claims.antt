@@ -75,9 +75,9 @@ module _ (c : MicroPriceConfig) (m : Memory Previous) (t₀ : List ℕ) (l : Lis
       λ i h. ap (λ (b : Bool). cond b (Ok tt) (Err (ModelRow i)))
       (row-checked c i (row_at t i) (row_of i h) (inside i h) (row_at t (mirror_of c.imbalance_buckets i)) (row-held t i) (mirrored i h) (rest i h)) in
       λ d.
-      first_of (refuse_if (not (fit-valid 10000 10 c m t₀ l fine d)) 1)
-      (first_of (refuse_if (not (eq-eqb (length t) (7 * states c) (table-long 10000 10 c m t₀ l fine) d)) 7)
-      (first-all (check_row c t) 0 (states c) (λ i h. row i (omega arith)) d))
+      first_of (first_of (refuse_if (not (fit-valid 10000 10 c m t₀ l fine d)) 1)
+      (refuse_if (not (eq-eqb (length t) (7 * states c) (table-long 10000 10 c m t₀ l fine) d)) 7))
+      (first-all (check_row c t) 0 (states c) (λ i h. row i (omega arith)) d)
 
   pub model-fitted : Model c t
   model-fitted =

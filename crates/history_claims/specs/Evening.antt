@@ -12,11 +12,11 @@ use Rattle.calibrator.specs.Record.{Previous}
 use Rattle.recording.specs.Recording.{quotes_of, filter}
 use Rattle.recording.specs.Window.{inside}
 use Rattle.recording.specs.Observe.{unusable, usable}
+use Rattle.recording.specs.declared.Recorded.{Recorded}
 use Rattle.history.specs.Calls.{Call, quote, History, gains, history_memory, history_refusal}
 use Rattle.history.specs.Demand.{left, history_of}
 use Rattle.fit.specs.Fit.{end_fit, fit_counts}
 use Rattle.evening.specs.Evening.{EveningOutcome, end_evening}
-use Rattle.evening.specs.declared.Counted.{Counted}
 use Rattle.history_claims.specs.Models.{Model, Demand3Whole}
 
 -- the recording's quotes inside the window
@@ -36,7 +36,7 @@ abbrev pub one_of : List ℕ → Refusal → Bool
 one_of ks r = any (eqb (number_of r)) ks
 
 -- an evening with the quotes qs in its window, the model table t and scratch l, that ends in o and answers d: a fit's answer and the number of invalid quotes
-pub record FittedEvening (c : MicroPriceConfig) (qs : List TopOfBook) (t : List ℕ) (l : List Float) (o : EveningOutcome) (d : Counted) : Type 0 where
+pub record FittedEvening (c : MicroPriceConfig) (qs : List TopOfBook) (t : List ℕ) (l : List Float) (o : EveningOutcome) (d : Recorded) : Type 0 where
   -- the history of the calls has the quotes that 3 and 4 do not refuse, all of them and in their order, and starts at new's zeros
   pub history-is : history_of c (calls_of qs) ≡ accepted_of c qs
   -- the record and tables are the history's, which are those that the calls leave
@@ -74,5 +74,5 @@ pub record RefusedEvening (c : MicroPriceConfig) (m : Memory Previous) (qs : Lis
 
 -- an evening that ends in o
 pub record EveningHistory (c : MicroPriceConfig) (m : Memory Previous) (qs : List TopOfBook) (t : List ℕ) (l : List Float) (o : EveningOutcome) : Type 0 where
-  pub fitted : (d : Counted) → o.answer ≡ Ok d → FittedEvening c qs t l o d
+  pub fitted : (d : Recorded) → o.answer ≡ Ok d → FittedEvening c qs t l o d
   pub refused : (r : Refusal) → o.answer ≡ Err r → RefusedEvening c m qs t l o r

@@ -32,10 +32,10 @@ own-left (Ok _) b m = refl
 own-left (Err r) b m = refl
 
 module _ (c : MicroPriceConfig) (m : Memory Previous) (b : List ℕ) {f : Bool} (test : f ≡ is_foreign c b m.counts.tables) where
-  pub restore-ends : f ≡ false → {a : Result MicroPriceConfig Refusal} {left : Memory Previous} {n : ℕ}
-      → end_restore a left ≡ restored b m → n ≡ answer_number (restores a) → CallEnds c m (restore b m) n left
-  restore-ends e taken number = (
-    rw (← test, e) (number ∙ ap (λ (t : Taken). answer_number (restores t.answer)) taken),
+  pub restore-ends : f ≡ false → {a : Result MicroPriceConfig Refusal} {left : Memory Previous} → end_restore a left ≡ restored b m
+      → CallEnds c m (restore b m) (answer_number (restores a)) left
+  restore-ends e taken = (
+    rw (← test, e) (ap (λ (t : Taken). answer_number (restores t.answer)) taken),
     rw (← test, e) (ap (λ (t : Taken). t.left) taken ∙ own-left (restore_refusal b m.counts.tables) b m),
   )
 
@@ -55,12 +55,11 @@ module _ (c : MicroPriceConfig) (s : Site) (p : Part) where
   steps_to l n m room = stepped_to n (record { memory = m; room = room }) ≡ stepped_by c l s
 
   -- the output that save leaves is put back into the room
-  pub save-steps : LiesIn (length s.room) (Save p) → {a : Check} {ys : List ℕ} {n : ℕ}
-      → end_save a ys ≡ saved c s.memory (bytes_in p s.room) → length ys ≡ length (mid_of p.start (p.end - p.start) s.room)
-      → n ≡ check_number a → steps_to (Save p) n s.memory (put_mid p.start (p.end - p.start) s.room ys)
-  save-steps h {ys = ys} es l en =
+  pub save-steps : LiesIn (length s.room) (Save p) → {a : Check} {ys : List ℕ} → end_save a ys ≡ saved c s.memory (bytes_in p s.room)
+      → length ys ≡ length (mid_of p.start (p.end - p.start) s.room) → steps_to (Save p) (check_number a) s.memory (put_mid p.start (p.end - p.start) s.room ys)
+  save-steps h {ys = ys} es l =
       let put = put_is p.start p.end s.room ys h.0 h.1 l in
-      λ i. stepped_to ((en ∙ ap (λ (t : Saved). check_number t.answer) es) i)
+      λ i. stepped_to (check_number (es i).answer)
       (record { memory = s.memory; room = (put ∙ ap (λ (t : Saved). sets s.room p.start t.output) es) i })
 
   -- a restore, left out or made, leaves the room as it was

@@ -1,5 +1,6 @@
 -- For the contracts and proofs of inner functions alone: a call as it is read from its words, and how one call ends.
 use Rattle.std.specs.Prelude.{ℕ, ◌+◌, ◌-◌, ◌≤◌, ◌≡◌, cond, eqb, leb, List, take, drop, Result, Ok, Err, ⊤}
+use Rattle.refusals.specs.Refusals.{number_of}
 use Rattle.config.specs.declared.MicroPriceConfig.{MicroPriceConfig}
 use Rattle.tally.specs.Rules.{Memory}
 use Rattle.calibrator.specs.Record.{Previous}
@@ -8,6 +9,8 @@ use Rattle.history_replay.specs.declared.BadEncoding.{BadEncoding}
 use Rattle.history_replay.specs.declared.inner.Part.{Part}
 use Rattle.history_replay.specs.declared.inner.CodedCall.{CodedCall}
 use Rattle.history_replay.specs.declared.inner.CodedCall.TheVariants.{Quote, Save, Restore}
+use Rattle.history_replay.specs.declared.inner.NotDone.{NotDone}
+use Rattle.history_replay.specs.declared.inner.NotDone.TheVariants.{Refused, OtherConfiguration}
 use Rattle.history_replay.specs.Replay.{Site, word_in, start_at, long_at, call_quote, is_call, well_coded, badly_coded, is_left_out, other_configuration, answer_number, Stepped, stepped_unless}
 
 -- ---- a call as it is read
@@ -58,6 +61,12 @@ output_start (Restore p) = p.start
 -- what it is answered with, and the site after it
 abbrev pub stepped_by : MicroPriceConfig → CodedCall → Site → Stepped
 stepped_by c l s = stepped_unless (is_left_out c (call_on l s)) (act c s.memory (call_on l s)) (output_start l) s
+
+-- 0 of a call that is done, else the number of the refusal or of the other configuration
+abbrev pub done_number : Result ⊤ NotDone → ℕ
+done_number (Ok _) = 0
+done_number (Err (Refused r)) = number_of r
+done_number (Err OtherConfiguration) = other_configuration
 
 -- what inner functions say of one call on the memory m: it ends with the number n and leaves the memory o
 abbrev pub CallEnds : MicroPriceConfig → Memory Previous → Call → ℕ → Memory Previous → Type 0

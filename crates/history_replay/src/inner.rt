@@ -4,15 +4,18 @@ ghost use Rattle.tally.specs.Lent.{tables_of, tables_in, SameSlices};
 ghost use Rattle.calibrator.specs.Record.{memory_with};
 ghost use Rattle.history.specs.Calls.{quote, restore};
 ghost use Rattle.history_replay.specs.Replay.{site, is_foreign, stepped_to};
-ghost use Rattle.history_replay.specs.Inner.{CallEnds, coding, decoded, part_in, LiesIn, stepped_by};
+ghost use Rattle.history_replay.specs.Inner.{CallEnds, coding, decoded, done_number, part_in, LiesIn, stepped_by};
+ghost use Rattle.history_replay.specs.declared.inner.NotDone.TheVariants.{Refused};
 
 use super::BadEncoding;
 use calibrator::Record;
 use config::MicroPriceConfig;
+use image_layout::Header;
 use quotes::TopOfBook;
+use refusals::Refusal;
 use tally::{LentTables, TablesView};
 
-// The bytes of a save or a restore in the room, from `start` to `end`.
+// The bytes of a save or a restore in the room, from `start` to `end`. No `Range<usize>`: that is not `Copy`.
 #[derive(Clone, Copy)]
 pub(crate) struct Part {
     start: usize,
@@ -27,18 +30,35 @@ pub(crate) enum CodedCall {
     Restore(Part),
 }
 
+// Why a call is not done.
+#[derive(Clone, Copy, Debug, PartialEq, Eq)]
+pub(crate) enum NotDone {
+    Refused(Refusal),
+    // The image that it would restore has another configuration: the call is left out.
+    OtherConfiguration,
+}
+
+impl From<Refusal> for NotDone {
+    ghost from_gives = { λ refusal reason. reason ≡ Refused refusal };
+
+    fn from(refusal: Refusal) -> NotDone {
+        NotDone::Refused(refusal)
+    }
+}
+
 // ---- images of another configuration
 
-// The number of a restore of another configuration, which is left out (the C interface has it).
+// The number of a restore of another configuration (the C interface has it).
 pub const OTHER_CONFIGURATION: u64 = 101;
 
 // Whether an image is of another configuration, and restore would take it.
 fn is_foreign(config: MicroPriceConfig, bytes: &[u8], tables: TablesView<'_>) -> bool
     ensures { result ≡ is_foreign config bytes.now (tables_in tables.entry) }
 {
-    bytes.len() >= image_layout::LEAST
-        && config != image_layout::config_in(bytes)
-        && image::inner::check_restore(bytes, tables).is_ok()
+    let Some(header) = Header::of(bytes) else {
+        return false;
+    };
+    config != header.config() && image::inner::check_restore(bytes, tables).is_ok()
 }
 
 // ---- the encoding
@@ -59,13 +79,10 @@ pub(crate) fn call_of(words: &[u64; 6], room: usize) -> Result<CodedCall, BadEnc
     ensures { result ≡ decoded room words.now 0 }
 {
     match *words {
-        [0, timestamp_ms, bid, ask, bid_size, ask_size] => Ok(CodedCall::Quote(TopOfBook {
-            timestamp_ms,
-            bid,
-            ask,
-            bid_size,
-            ask_size,
-        })),
+        [0, time, bid, ask, bid_size, ask_size] => {
+            let quote = [time, bid, ask, bid_size, ask_size];
+            Ok(CodedCall::Quote(TopOfBook::from(quote)))
+        }
         [1, start, long, ..] => Ok(CodedCall::Save(part_in(room, start, long)?)),
         [2, start, long, ..] => Ok(CodedCall::Restore(part_in(room, start, long)?)),
         _ => Err(BadEncoding),
@@ -91,17 +108,29 @@ pub(crate) fn check_encoding(calls: &[u64], room: usize, answers: usize) -> Resu
 
 // ---- one call
 
+// The number that is written: 0 of a call that is done, else that of the refusal or of the other configuration. No `From`: `Result` and `u64` are not of this
+// crate.
+pub(crate) fn done_number(done: Result<(), NotDone>) -> u64
+    ensures { result ≡ done_number done }
+{
+    match done {
+        Ok(()) => 0,
+        Err(NotDone::Refused(refusal)) => refusal.number(),
+        Err(NotDone::OtherConfiguration) => OTHER_CONFIGURATION,
+    }
+}
+
 fn replay_quote(
     rec: &mut Record,
     tables: &mut LentTables<'_>,
     config: MicroPriceConfig,
     next: TopOfBook,
-) -> u64
-    ensures ends { CallEnds config (memory_with rec.old (tables_of tables.old)) (quote next) result (memory_with rec.new (tables_of tables.new)) }
+) -> Result<(), NotDone>
+    ensures ends { CallEnds config (memory_with rec.old (tables_of tables.old)) (quote next) (done_number result) (memory_with rec.new (tables_of tables.new)) }
     ensures same_slices { SameSlices tables.old tables.new }
 {
-    let answer = calibrator::observe(rec, tables, config, next);
-    refusals::check_number(answer)
+    calibrator::observe(rec, tables, config, next)?;
+    Ok(())
 }
 
 // A restore of another configuration is left out.
@@ -110,37 +139,37 @@ fn replay_restore(
     tables: &mut LentTables<'_>,
     config: MicroPriceConfig,
     bytes: &[u8],
-) -> u64
-    ensures ends { let m = memory_with rec.old (tables_of tables.old) in CallEnds config m (restore bytes.now m) result (memory_with rec.new (tables_of tables.new)) }
+) -> Result<(), NotDone>
+    ensures ends { let m = memory_with rec.old (tables_of tables.old) in
+        CallEnds config m (restore bytes.now m) (done_number result) (memory_with rec.new (tables_of tables.new)) }
     ensures same_slices { SameSlices tables.old tables.new }
 {
     if is_foreign(config, bytes, tables.view()) {
-        return OTHER_CONFIGURATION;
+        return Err(NotDone::OtherConfiguration);
     }
-    match image::restore(rec, bytes, tables) {
-        Ok(_) => 0,
-        Err(r) => r.number(),
-    }
+    image::restore(rec, bytes, tables)?;
+    Ok(())
 }
 
-// Makes a call whose bytes lie in the room, and answers its number.
+// Makes a call whose bytes lie in the room.
 pub(crate) fn replay_call(
     rec: &mut Record,
     tables: &mut LentTables<'_>,
     config: MicroPriceConfig,
     call: CodedCall,
     room: &mut [u8],
-) -> u64
+) -> Result<(), NotDone>
     requires { LiesIn (length room.old) call }
-    ensures steps { stepped_to result (site rec.new (tables_of tables.new) room.new) ≡ stepped_by config call (site rec.old (tables_of tables.old) room.old) }
+    ensures steps { stepped_to (done_number result) (site rec.new (tables_of tables.new) room.new)
+        ≡ stepped_by config call (site rec.old (tables_of tables.old) room.old) }
     ensures same_slices { SameSlices tables.old tables.new }
 {
     match call {
         CodedCall::Quote(next) => replay_quote(rec, tables, config, next),
         CodedCall::Save(part) => {
             let out = &mut room[part.start..part.end];
-            let answer = image::save(rec, tables.view(), config, out);
-            refusals::check_number(answer)
+            image::save(rec, tables.view(), config, out)?;
+            Ok(())
         }
         CodedCall::Restore(part) => {
             let bytes = &room[part.start..part.end];

@@ -11,7 +11,7 @@ ghost use Rattle.tally.specs.Lent.{tables_of, SameSlices};
 ghost use Rattle.history_replay.specs.Replay.{site, Promised, replay as replays};
 
 // A list that is no encoding of as many calls as there are answers, or has bytes past the room.
-#[derive(Clone, Copy)]
+#[derive(Clone, Copy, Debug, PartialEq, Eq)]
 pub struct BadEncoding;
 
 // Runs an encoded list of calls and writes each one's answer. A call is six words: 0 and a quote; 1 (save) or 2 (restore), where its bytes begin in the room,
@@ -31,9 +31,11 @@ pub fn replay(
 {
     inner::check_encoding(calls, room.len(), answers.len())?;
     let (calls, _) = calls.as_chunks::<6>();
+    // The calls by index: of what a `zip` over `iter_mut` writes, no clause of the library says anything. They are judged, so no `?` here answers.
     for (k, answer) in answers.iter_mut().enumerate() {
         let call = inner::call_of(&calls[k], room.len())?;
-        *answer = inner::replay_call(rec, tables, config, call, room);
+        let done = inner::replay_call(rec, tables, config, call, room);
+        *answer = inner::done_number(done);
     }
     Ok(())
 }

@@ -1,12 +1,12 @@
 // The work by value, for Rattle callers, and the functions that it is made of. Beside the operations, which are thin over it: docs/DECISIONS.md.
 // `save`, `restore` and `check_restore` ask nothing; where another has a `requires`, each caller proves it.
-ghost use Rattle.std.specs.Prelude.{◌≡◌, false, ◌+◌, ◌*◌, ◌≤◌, ◌<◌, length};
+ghost use Rattle.std.specs.Prelude.{◌≡◌, false, ◌+◌, ◌*◌, ◌≤◌, length};
 ghost use Rattle.config.specs.Configuration.{states};
 ghost use Rattle.config.specs.Inner.{Valid};
 ghost use Rattle.tally.specs.Lent.{tables_of, tables_in, SameSlices};
 ghost use Rattle.calibrator.specs.Record.{memory_with};
 ghost use Rattle.calibrator.specs.Observe.{broken, lent_wrong};
-ghost use Rattle.image_layout.specs.Layout.{newest, image_length, image, config_in, record_in, memory_in};
+ghost use Rattle.image_layout.specs.Layout.{newest, image_length, image, config_in, memory_in};
 ghost use Rattle.image.specs.Image.{end_save, saved, save_refusal, restored, held_refusal, restore_refusal, restored_by};
 ghost use Rattle.image.specs.Inner.{Readable};
 ghost use Rattle.calibrator.specs.declared.Record.{Record};
@@ -14,6 +14,7 @@ ghost use Rattle.calibrator.specs.declared.Record.{Record};
 use super::Restored;
 use calibrator::Record;
 use config::MicroPriceConfig;
+use image_layout::Header;
 use quotes::TopOfBook;
 use refusals::Refusal;
 use tally::{LentTables, TablesView};
@@ -23,10 +24,7 @@ fn is_broken(config: MicroPriceConfig, previous: Option<TopOfBook>) -> bool
     requires { 1 ≤ config.tick_size }
     ensures { result ≡ broken config previous }
 {
-    match previous {
-        None => false,
-        Some(q) => quotes::inner::check_quote(config, q).is_err(),
-    }
+    previous.is_some_and(|q| quotes::inner::check_quote(config, q).is_err())
 }
 
 fn check_save(
@@ -77,16 +75,14 @@ pub fn save(
     Ok(())
 }
 
-// 7, 8, then 6, 9, 10, 11, on an image whose header is judged.
-fn check_held(
-    b: &[u8],
-    config: MicroPriceConfig,
-    rec: Record,
-    tables: TablesView<'_>,
-) -> Result<(), Refusal>
-    requires { Valid config × (config ≡ config_in newest b.now) × (rec ≡ record_in newest b.now) × (length b.now ≡ image_length newest config) }
-    ensures { result ≡ held_refusal newest b.now (tables_in tables.entry) }
+// Refusals 7 and 8, then 6, 9, 10 and 11, of an image whose header is judged.
+fn check_held(header: &Header<'_>, tables: TablesView<'_>) -> Result<(), Refusal>
+    requires { let b = header.now.bytes.now in Valid (config_in newest b) × (length b ≡ image_length newest (config_in newest b)) }
+    ensures { result ≡ held_refusal newest header.now.bytes.now (tables_in tables.entry) }
 {
+    let b = header.bytes;
+    let config = header.config();
+    let rec = header.record();
     let n = config::inner::state_count(config);
     if calibrator::inner::wrong_lengths(n, tables) {
         return Err(Refusal::SliceLength);
@@ -109,16 +105,15 @@ fn check_held(
 pub fn check_restore(b: &[u8], tables: TablesView<'_>) -> Result<(), Refusal>
     ensures { result ≡ restore_refusal b.now (tables_in tables.entry) }
 {
-    if b.len() < image_layout::LEAST {
+    // By `else`, and no `ok_or`: what `of` says of the header would be lost.
+    let Some(header) = Header::of(b) else {
+        return Err(Refusal::ImageLayout);
+    };
+    header.config().validate()?;
+    if !header.is_laid_out() {
         return Err(Refusal::ImageLayout);
     }
-    let config = image_layout::config_in(b);
-    config.validate()?;
-    let rec = image_layout::record_in(b);
-    if !image_layout::is_laid_out(b, config, rec) {
-        return Err(Refusal::ImageLayout);
-    }
-    check_held(b, config, rec, tables)
+    check_held(&header, tables)
 }
 
 fn read_tables(b: &[u8], tables: &mut LentTables<'_>)
@@ -138,8 +133,11 @@ pub fn restore(image: &[u8], tables: &mut LentTables<'_>) -> Result<Restored, Re
     ensures same_slices { SameSlices tables.old tables.new }
 {
     check_restore(image, tables.view())?;
-    let config = image_layout::config_in(image);
-    let rec = image_layout::record_in(image);
+    // Read again: a check that answered the header would answer more than a refusal, and the replay wants the refusal alone.
+    let header = Header::of(image).unwrap();
     read_tables(image, tables);
-    Ok(Restored { config, rec })
+    Ok(Restored {
+        config: header.config(),
+        rec: header.record(),
+    })
 }

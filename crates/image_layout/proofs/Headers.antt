@@ -1,47 +1,45 @@
--- The header's words compared with those of h, from the first one on, and the judgement of the layout.
-use Prim.Native.Nat.{ℕ, suc, ◌+◌, ◌-◌, ◌*◌, ◌/◌, ◌<◌}
+-- The words of a header that is read, and the judgement of the layout.
+use Prim.Native.Nat.{ℕ, ◌/◌, ◌<◌}
 use mathlib.Core.Path.{◌≡◌, refl, sym, ap, ◌∙◌}
 use mathlib.Core.Bool.{Bool, true, false, ◌&&◌, true≢false}
 use mathlib.Core.List.{List, [], ◌∷◌}
 use native.Mathlib.Omega.{arith}
 use lib.Dec.{eqb}
-use lib.ListN.{length, get_or, drop}
-use lib.Seq.{drop-cons, drop-drop}
+use lib.ListN.{length, get_or}
 use borrow.Author.Tests.{eqb-true, eq-eqb}
 use Rattle.basics.proofs.Lists.{same-equal}
 use Rattle.basics.proofs.Tests.{fails}
 use Rattle.basics.specs.Lists.{same_words}
-use Rattle.image_words.specs.Words.{words_of, word_at}
+use Rattle.image_words.specs.Words.{words_of}
 use Rattle.image_words.proofs.Laws.{words-at}
 use Rattle.config.specs.declared.MicroPriceConfig.{MicroPriceConfig}
 use Rattle.tally.specs.Entries.{tables}
 use Rattle.tally.specs.Events.{Counts}
 use Rattle.calibrator.specs.Record.{counts_of, Previous}
 use Rattle.calibrator.specs.declared.Record.{Record}
-use Rattle.image_layout.specs.Layout.{newest, is_read, image_length, header, form_in, config_in, record_in, header_in, laid_out}
+use Rattle.image_layout.specs.Layout.{newest, is_read, image_length, header, form_in, config_in, record_in, header_in, laid_out, oldest, word}
+use lib.Pointwise.{pointwise}
+use Rattle.std.specs.Prelude.{nat_eq, cond, Some, None}
+use Rattle.std.specs.Bool.{then_some}
 
--- the words from i on of a header of h's form, compared with those of h
-module _ (b h : List ℕ) where
-  abbrev pub same_from : ℕ → Bool
-  same_from i = same_words (words_of (length h - i) (drop (8 * i) b)) (drop i h)
+-- ---- the words of a header
 
-  pub same_start : same_words (header_in (length h) b) h ≡ same_from 0
-  unfolding header_in
-  same_start = ap (λ (n : ℕ). same_words (words_of n b) h) (let e : length h ≡ length h - 0 = omega arith in e)
+-- word k of the words that are read is word k of the bytes
+pub word-read : (b ws : List ℕ) → ws ≡ header_in oldest b → (k : ℕ) → k < oldest → get_or ws k 0 ≡ word b k
+unfolding header_in
+word-read b ws read k h = ap (λ (l : List ℕ). get_or l k 0) read ∙ words-at oldest k b h
 
-  same_step : (i : ℕ) → i < length h → same_from i ≡ (eqb (word_at b (8 * i)) (get_or h i 0) && same_from (i + 1))
-  same_step i l =
-      let n : length h - i ≡ suc (length h - (i + 1)) = omega arith in
-      let k : suc i ≡ i + 1 = omega arith in
-      let d : drop i h ≡ get_or h i 0 ∷ drop (i + 1) h = drop-cons h i 0 l ∙ ap (λ (j : ℕ). get_or h i 0 ∷ drop j h) k in
-      let w : drop 8 (drop (8 * i) b) ≡ drop (8 * (i + 1)) b =
-      drop-drop 8 (8 * i) b ∙ ap (λ (j : ℕ). drop j b) (let s : 8 * i + 8 ≡ 8 * (i + 1) = omega arith in s) in
-      rw (n, d, w)
+-- code's last quote is the definition's
+pub some-if : {A : Type 0} (t : Bool) (x : A) → then_some t x ≡ cond t (Some x) None
+some-if true x = refl
+some-if false x = refl
 
-  -- a turn of the walk: the word w that is read at i is the one in h
-  module _ (i : ℕ) {w : ℕ} (l : i < length h) (ew : w ≡ word_at b (8 * i)) where
-    pub same-agrees : w ≡ get_or h i 0 → same_from i ≡ same_from (i + 1)
-    same-agrees f = same_step i l ∙ rw (← ew, eq-eqb w (get_or h i 0) f)
+-- the library's test of two lists of numbers
+pub same-pointwise : (xs ys : List ℕ) → pointwise nat_eq xs ys ≡ same_words xs ys
+same-pointwise [] [] = refl
+same-pointwise [] (y ∷ ys) = refl
+same-pointwise (x ∷ xs) [] = refl
+same-pointwise (x ∷ xs) (y ∷ ys) = ap (λ t. nat_eq x y && t) (same-pointwise xs ys)
 
 -- ---- the test of the layout
 

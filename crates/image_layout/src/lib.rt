@@ -1,21 +1,22 @@
-// The layout of an image (document 01, "The image"): its header, written and read. Inner functions: for the crates above, not for users. Where one has a `requires`, each caller proves it.
+// The layout of an image (document 01, "The image"): its header, written and read. Inner functions: for the crates above, not for users. Where one has a
+// `requires`, each caller proves it.
 #![tactic(auto)]
 
-ghost use Rattle.std.specs.Prelude.{◌≡◌, [], ◌≤◌, length};
+ghost use Rattle.std.specs.Prelude.{◌≡◌, [], ◌<◌, ◌≤◌, length, MatchOption};
 ghost use Rattle.config.specs.Inner.{Valid};
 ghost use Rattle.tally.specs.Entries.{tables};
 ghost use Rattle.calibrator.specs.Record.{counts_of};
-ghost use Rattle.basics.specs.Lists.{same_words};
-ghost use Rattle.image_layout.specs.Layout.{oldest, newest, header_length, cells, image_length, previous_words, header, form_in, config_in, quote_in, previous_in, record_in, header_in, laid_out};
+ghost use Rattle.image_layout.specs.Layout.{oldest, newest, header_length, cells, image_length, previous_words, header, form_in, config_in, record_in, header_in, laid_out};
 
 use calibrator::{Counters, Record};
 use config::MicroPriceConfig;
 use quotes::TopOfBook;
 
-// The words of the oldest header, and the bytes that every header has.
+// The words of the oldest header.
 const OLDEST: usize = 20;
 
-pub const LEAST: usize = 8 * OLDEST;
+// The bytes that every header has.
+const LEAST: usize = 8 * OLDEST;
 
 // The words of the header that save writes, its form, and its length in bytes.
 pub const FORM: usize = OLDEST;
@@ -80,85 +81,57 @@ pub fn image_length(config: MicroPriceConfig) -> usize
     HEADER + 16 * cell_count(config) + 8 * config::inner::state_count(config)
 }
 
-pub fn config_in(b: &[u8]) -> MicroPriceConfig
-    requires { header_length oldest ≤ length b.now }
-    ensures { result ≡ config_in (form_in b.now) b.now }
-{
-    let n = image_words::get_word(b, 8);
-    let s = image_words::get_word(b, 16);
-    let tick = image_words::get_word(b, 24);
-    let least = image_words::get_word(b, 32);
-    let gap = image_words::get_word(b, 40);
-    let words = [tick, n, s, least, gap];
-    config::inner::config_of(&words)
+// A header and its words, of bytes that are at least as many as every header has.
+#[derive(Clone, Copy)]
+pub struct Header<'a> {
+    pub bytes: &'a [u8],
+    words: [u64; OLDEST],
+    ghost long: { header_length oldest ≤ length bytes.now },
+    ghost read: { words ≡ header_in oldest bytes.now },
 }
 
-fn quote_in(b: &[u8]) -> TopOfBook
-    requires { header_length oldest ≤ length b.now }
-    ensures { result ≡ quote_in b.now }
-{
-    let timestamp_ms = image_words::get_word(b, 80);
-    let bid = image_words::get_word(b, 88);
-    let ask = image_words::get_word(b, 96);
-    let bid_size = image_words::get_word(b, 104);
-    let ask_size = image_words::get_word(b, 112);
-    TopOfBook {
-        timestamp_ms,
-        bid,
-        ask,
-        bid_size,
-        ask_size,
+impl<'a> Header<'a> {
+    pub fn of(bytes: &'a [u8]) -> Option<Header<'a>>
+        ensures { MatchOption result (length bytes.now < header_length oldest) (λ header. header.bytes.now ≡ bytes.now) }
+    {
+        if bytes.len() < LEAST {
+            return None;
+        }
+        let mut words = [0; OLDEST];
+        image_words::get_table(bytes, 0, &mut words);
+        Some(Header { bytes, words })
     }
-}
 
-fn previous_in(b: &[u8]) -> Option<TopOfBook>
-    requires { header_length oldest ≤ length b.now }
-    ensures { result ≡ previous_in b.now }
-{
-    let flag = image_words::get_word(b, 72);
-    if flag == 1 {
-        return Some(quote_in(b));
+    pub fn config(&self) -> MicroPriceConfig
+        ensures { result ≡ config_in (form_in self.now.bytes.now) self.now.bytes.now }
+    {
+        let [_, buckets, spreads, tick, least, gap, ..] = self.words;
+        config::inner::config_of(&[tick, buckets, spreads, least, gap])
     }
-    None
-}
 
-pub fn record_in(b: &[u8]) -> Record
-    requires { header_length oldest ≤ length b.now }
-    ensures { result ≡ record_in (form_in b.now) b.now }
-{
-    let previous = previous_in(b);
-    let pairs = image_words::get_word(b, 120);
-    let skipped_spread_pairs = image_words::get_word(b, 128);
-    let skipped_gap_pairs = image_words::get_word(b, 136);
-    let largest_move_half_ticks = image_words::get_word(b, 144);
-    Record {
-        previous,
-        counters: Counters {
-            pairs,
-            skipped_spread_pairs,
-            skipped_gap_pairs,
-            largest_move_half_ticks,
-        },
-    }
-}
-
-fn same_words(b: &[u8], h: &[u64]) -> bool
-    requires { header_length (length h.now) ≤ length b.now }
-    ensures { result ≡ same_words (header_in (length h.now) b.now) h.now }
-{
-    for (i, word) in h.iter().enumerate() {
-        if image_words::get_word(b, 8 * i) != *word {
-            return false;
+    pub fn record(&self) -> Record
+        ensures { result ≡ record_in (form_in self.now.bytes.now) self.now.bytes.now }
+    {
+        let w = self.words;
+        let quote = TopOfBook::from([w[10], w[11], w[12], w[13], w[14]]);
+        Record {
+            previous: (w[9] == 1).then_some(quote),
+            counters: Counters {
+                pairs: w[15],
+                skipped_spread_pairs: w[16],
+                skipped_gap_pairs: w[17],
+                largest_move_half_ticks: w[18],
+            },
         }
     }
-    true
-}
 
-pub fn is_laid_out(b: &[u8], config: MicroPriceConfig, rec: Record) -> bool
-    requires { Valid config × (header_length oldest ≤ length b.now) × (config ≡ config_in (form_in b.now) b.now) × (rec ≡ record_in (form_in b.now) b.now) }
-    ensures { result ≡ laid_out (form_in b.now) b.now }
-{
-    let h = header_words(config, rec);
-    let same = same_words(b, &h);
-    same & (b.len() == image_length(config))
+    // Whether the words are those of the header that save writes of this configuration and record, and the bytes as many as their image has.
+    pub fn is_laid_out(&self) -> bool
+        requires { let b = self.now.bytes.now in Valid (config_in (form_in b) b) }
+        ensures { let b = self.now.bytes.now in result ≡ laid_out (form_in b) b }
+    {
+        let config = self.config();
+        let words = header_words(config, self.record());
+        (self.words == words) & (self.bytes.len() == image_length(config))
+    }
 }

@@ -1,4 +1,5 @@
-// Words of 64 bits as little-endian bytes, eight to a word, and tables of them. Inner functions: for the crates above, not for users. Where one has a `requires`, each caller proves it.
+// Words of 64 bits as little-endian bytes, eight to a word, and tables of them. Inner functions: for the crates above, not for users. Where one has a
+// `requires`, each caller proves it.
 #![tactic(auto)]
 
 ghost use Rattle.std.specs.Prelude.{◌≡◌, ℕ, ◌+◌, ◌*◌, ◌≤◌, ◌<◌, ◌^◌, length, drop, map, refl};
@@ -56,6 +57,7 @@ impl Word for i64 {
     }
 }
 
+// A place stands beside the slice: the image is one lent slice (no heap), and a contract says what the whole is after; of `&mut out[at..]` it would say a part.
 pub fn put_word(out: &mut [u8], at: usize, w: u64)
     requires { at + 8 ≤ length out.old }
     ensures { out.new ≡ sets out.old at (digits 8 w) }

@@ -3,13 +3,15 @@ use mathlib.Core.Path.{◌≡◌, refl, sym, ap, ◌∙◌}
 use mathlib.Core.Bool.{not}
 use mathlib.Core.Logic.{◌≢◌, ◌⊎◌, inl, inr}
 use mathlib.Core.List.{List, [], ◌∷◌, ◌++◌}
-use Prim.Native.Nat.{ℕ, zero, suc, ◌+◌, ◌*◌, ◌<◌, ◌≤◌, ◌^◌}
+use Prim.Native.Nat.{ℕ, zero, suc, ◌+◌, ◌*◌, ◌/◌, ◌<◌, ◌≤◌, ◌^◌}
+use native.Mathlib.Nat.{le_of_suc-le-suc}
 use native.Mathlib.Omega.{arith}
 use lib.Dec.{T}
 use lib.Ieee.{Float, nan, inf, fin, binary64, fits, is_nan}
 use lib.Ieee.Bits.{of_bits-to_bits, to_bits-of_bits, of_bits-fits}
 use lib.ListN.{length, get_or, take, drop}
-use lib.Seq.{sets, sets-eq, length-sets}
+use lib.Seq.{sets, sets-eq, length-sets, get_or-take, get_or-drop}
+use Rattle.std.specs.Simd.{first_chunks}
 use Rattle.std.proofs.Common.{append_assoc}
 use Rattle.std.proofs.lemmas.List.{drop-drop}
 use borrow.Rule.Slice.PartMut.{put_mid}
@@ -19,10 +21,10 @@ use Rattle.floats.specs.Floats.{plus_zero, bits_of, from_bits}
 use Rattle.model.specs.Rows.{float_word, row_words, row_word, row_at, plus_zeros}
 use Rattle.model.specs.declared.StateEstimate.{StateEstimate}
 
--- the words of a row in place of those that stood there
-pub row-put : (l : List ℕ) (i : ℕ) (e : StateEstimate) {k : ℕ} {ws : List ℕ} → k ≡ 7 → 7 * i + 7 ≤ length l → ws ≡ row_words e
+-- the words of a row in place of those that stood there, as `write_row` has them
+pub row_put : (l : List ℕ) (i : ℕ) (e : StateEstimate) {k : ℕ} {ws : List ℕ} → k ≡ 7 → 7 * i + 7 ≤ length l → ws ≡ row_words e
     → put_mid (7 * i) k l ws ≡ sets l (7 * i) (row_words e)
-row-put l i e is-k h is-ws =
+row_put l i e is-k h is-ws =
     (λ j. put_mid (7 * i) (is-k j) l (is-ws j))
     ∙ sym (append_assoc (take (7 * i) l) (row_words e) (drop 7 (drop (7 * i) l)))
     ∙ ap (λ rest. take (7 * i) l ++ row_words e ++ rest) (drop-drop 7 (7 * i) l)
@@ -30,6 +32,21 @@ row-put l i e is-k h is-ws =
 
 pub length-row : (e : StateEstimate) → length (row_words e) ≡ 7
 length-row e = refl
+
+-- ---- reading
+
+seven : (n : ℕ) (l : List ℕ) (i k : ℕ) (d : List ℕ) → i < n → k < 7 → get_or (get_or (first_chunks 7 n l) i d) k 0 ≡ row_word l i k
+seven zero l i k d h b = absurd (omega arith)
+seven (suc n) l zero k d h b = get_or-take 7 l k 0 b ∙ ap (λ (j : ℕ). get_or l j 0) (let z : k ≡ 7 * 0 + k = omega arith in z)
+seven (suc n) l (suc i) k d h b =
+    seven n (drop 7 l) i k d (le_of_suc-le-suc h) b ∙ get_or-drop 7 l (7 * i + k) 0
+    ∙ ap (λ (j : ℕ). get_or l j 0) (let z : 7 + (7 * i + k) ≡ 7 * (suc i) + k = omega arith in z)
+
+-- word k of row i, as `read_row` has the rows
+pub word_of_seven : (l : List ℕ) (rows : List (List ℕ)) (i k : ℕ) → rows ≡ first_chunks 7 (length l / 7) l → 7 * i + 7 ≤ length l → k < 7
+    → get_or (get_or rows i []) k 0 ≡ row_word l i k
+word_of_seven l rows i k e h b =
+    ap (λ (r : List (List ℕ)). get_or (get_or r i []) k 0) e ∙ seven (length l / 7) l i k [] (omega arith) b
 
 -- ---- reading what was written
 

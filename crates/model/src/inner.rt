@@ -12,7 +12,8 @@ fn float_word(x: f64) -> u64
     floats::to_bits(floats::plus_zero(x))
 }
 
-// Writes the row of state i.
+// Writes the row of state i. The C interface lends words, and here alone are they made, each named once: a `From` for `[u64; 7]` is no plainer.
+#[tactic(auto, using(crate::proofs::Rows::row_put))]
 pub fn write_row(model: &mut [u64], i: usize, e: StateEstimate)
     requires { 7 * i + 7 ≤ length model.old }
     ensures { model.new ≡ sets model.old (7 * i) (row_words e) }
@@ -29,22 +30,21 @@ pub fn write_row(model: &mut [u64], i: usize, e: StateEstimate)
     model[7 * i..7 * i + 7].copy_from_slice(&row);
 }
 
-// Reads the row of state i.
+// Reads the row of state i. Here alone are words read as an estimate, each named once: a `From<[u64; 7]>` is no plainer.
+#[tactic(auto, using(crate::proofs::Rows::word_of_seven))]
 pub fn read_row(model: &[u64], i: usize) -> StateEstimate
     requires { 7 * i + 7 ≤ length model.now }
     ensures { result ≡ row_at model.now i }
 {
-    let at = 7 * i;
-    let first_adjustment = floats::from_bits(model[at + 3]);
-    let adjustment = floats::from_bits(model[at + 4]);
-    let fallback_within_moves = floats::from_bits(model[at + 5]);
+    let (rows, _) = model.as_chunks::<7>();
+    let [bucket, spread, pairs, first, adjustment, share, status] = rows[i];
     StateEstimate {
-        imbalance_bucket: model[at],
-        spread_ticks: model[at + 1],
-        observations: model[at + 2],
-        first_adjustment: first_adjustment,
-        adjustment: adjustment,
-        fallback_within_moves: fallback_within_moves,
-        status: model[at + 6],
+        imbalance_bucket: bucket,
+        spread_ticks: spread,
+        observations: pairs,
+        first_adjustment: floats::from_bits(first),
+        adjustment: floats::from_bits(adjustment),
+        fallback_within_moves: floats::from_bits(share),
+        status,
     }
 }

@@ -67,6 +67,6 @@ pub struct StateEstimate {
     pub adjustment: f64,
     // Share that is absorbed by a fallback state within 10 mid moves.
     pub fallback_within_moves: f64,
-    // The number of a `StateStatus`; any other word is kept as it is.
+    // The number of a `StateStatus`; any other word is kept as it is: the table is lent, and the model check judges what stands there.
     pub status: u64,
 }

@@ -87,7 +87,10 @@ check_row c model i =
 abbrev pub wrong_length : MicroPriceConfig → List ℕ → Bool
 wrong_length c model = not (eqb (length model) (7 * states c))
 
+-- refusals 1 and 7
+abbrev pub check_table : MicroPriceConfig → List ℕ → Check
+check_table c model = first_of (check_config c) (refuse_if (wrong_length c model) 7)
+
 -- 1, 7, 13 at the first bad row
 abbrev pub check_model : MicroPriceConfig → List ℕ → Check
-check_model c model =
-    first_of (check_config c) (first_of (refuse_if (wrong_length c model) 7) (first_from (check_row c model) 0 (states c)))
+check_model c model = first_of (check_table c model) (first_from (check_row c model) 0 (states c))

@@ -7,16 +7,12 @@ ghost use Rattle.std.specs.Prelude.{◌≡◌};
 ghost use Rattle.model_check.specs.Check.{check_model};
 
 use config::MicroPriceConfig;
+use inner::ModelTable;
 use refusals::Refusal;
 
 // Refuses a model table that is not one of the configuration, at its first bad row.
 pub fn check_model(config: MicroPriceConfig, model: &[u64]) -> Result<(), Refusal>
     ensures { result ≡ check_model config model.now }
 {
-    config.validate()?;
-    let n = config::inner::state_count(config);
-    if model.len() != 7 * n {
-        return Err(Refusal::SliceLength);
-    }
-    inner::check_rows(config, model, n)
+    ModelTable::of(config, model)?.check_rows()
 }

@@ -22,7 +22,7 @@ use Rattle.quotes.specs.declared.At.{At}
 use Rattle.quotes.specs.declared.Reason.{Reason}
 use Rattle.refusals.specs.declared.Refusal.TheVariants.{ModelRow}
 use Rattle.refusals.proofs.Refusals.{first_fine, from-fine}
-use Rattle.config.specs.Configuration.{states, valid, check_config}
+use Rattle.config.specs.Configuration.{states, valid}
 use Rattle.config.specs.Inner.{Valid}
 use Rattle.config.specs.declared.MicroPriceConfig.{MicroPriceConfig}
 use Rattle.config.proofs.Known.{valid-known}
@@ -30,7 +30,7 @@ use Rattle.quotes.specs.Quotes.{over_domain, bad_quote, off_tick, check_quote, e
 use Rattle.quotes.specs.States.{mirror_of, place_of}
 use Rattle.quotes.specs.declared.TopOfBook.{TopOfBook}
 use Rattle.quotes.proofs.States.{place-located, state-located}
-use Rattle.model_check.specs.Check.{half_spread_of, has_status, bucket_is, spread_is, status_known, floats_finite, no_minus_zero, share_in_range, fallback_at_mid, inside_quotes, outside_quotes, state_mirrors, row_fine, check_row, wrong_length, check_model}
+use Rattle.model_check.specs.Check.{half_spread_of, has_status, bucket_is, spread_is, status_known, floats_finite, no_minus_zero, share_in_range, fallback_at_mid, inside_quotes, outside_quotes, state_mirrors, row_fine, check_row, wrong_length, check_table, check_model}
 use Rattle.model_signals.specs.Claims.{RowsMirror, AnswersMirror}
 use Rattle.model_signals.specs.Signal.{row_serves, adjustment_of, source_of, sent, signal_at, sent_unless, signal_refusal, signal_of}
 use Rattle.model_signals.proofs.Exchanged.{signal-exchanged}
@@ -115,7 +115,7 @@ all-served c t serves q i e = go (signal_refusal c t q) refl e
     quote false false true k = zero-not-one cc
     quote false false false k = zero-not-one cc
 
-    no_row : (a b : Bool) (k : Check) → (k ≡ Err (ModelRow i) → ⊥) → first_of (refuse_if a 1) (first_of (refuse_if b 7) k) ≡ Err (ModelRow i)
+    no_row : (a b : Bool) (k : Check) → (k ≡ Err (ModelRow i) → ⊥) → first_of (first_of (refuse_if a 1) (refuse_if b 7)) k ≡ Err (ModelRow i)
         → ⊥
     no_row true b k n f = zero-not-one cc
     no_row false true k n f = zero-not-one cc
@@ -142,9 +142,8 @@ row_fine_lem false i e = absurd (zero-not-one cc)
 module _ (c : MicroPriceConfig) (t : List ℕ) (h : check_model c t ≡ Ok tt) where
   rows-fine : (i : ℕ) → i < states c → row_fine c i (row_at t i) (row_at t (mirror_of c.imbalance_buckets i)) ≡ true
   rows-fine i l =
-      let a = first_fine (check_config c) (first_of (refuse_if (wrong_length c t) 7) (first_from (check_row c t) 0 (states c))) h in
-      let b = first_fine (refuse_if (wrong_length c t) 7) (first_from (check_row c t) 0 (states c)) a.1 in
-      row_fine_lem _ i (from-fine (check_row c t) 0 (states c) b.1 i (omega arith) (omega arith))
+      let rows = (first_fine (check_table c t) (first_from (check_row c t) 0 (states c)) h).1 in
+      row_fine_lem _ i (from-fine (check_row c t) 0 (states c) rows i (omega arith) (omega arith))
 
   -- a state's row and its mirror's
   pub checked-mirrored : (i : ℕ) → i < states c → RowsMirror (row_at t i) (row_at t (mirror_of c.imbalance_buckets i))

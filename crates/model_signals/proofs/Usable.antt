@@ -6,7 +6,7 @@ use mathlib.Core.List.{List}
 use lib.ListN.{length}
 use lib.Dec.{eqb}
 use borrow.Author.Tests.{not-false, eqb-true}
-use Rattle.refusals.specs.Refusals.{refuse_if, first_of}
+use Rattle.refusals.specs.Refusals.{refuse_if}
 use Rattle.std.specs.Prelude.{Ok}
 use Rattle.refusals.proofs.Refusals.{if-fine, first_fine}
 use Rattle.config.specs.Configuration.{states, valid, check_config}
@@ -14,7 +14,7 @@ use Rattle.config.proofs.Known.{valid-unrefused}
 use Rattle.config.specs.declared.MicroPriceConfig.{MicroPriceConfig}
 use Rattle.quotes.specs.Quotes.{check_quote}
 use Rattle.quotes.specs.declared.TopOfBook.{TopOfBook}
-use Rattle.model_check.specs.Check.{wrong_length}
+use Rattle.model_check.specs.Check.{wrong_length, check_table}
 use Rattle.model_signals.specs.Signal.{signal_refusal}
 
 pub record Usable (c : MicroPriceConfig) (t : List ℕ) (q : TopOfBook) : Type 0 where
@@ -24,10 +24,10 @@ pub record Usable (c : MicroPriceConfig) (t : List ℕ) (q : TopOfBook) : Type 0
 
 pub unrefused : (c : MicroPriceConfig) (t : List ℕ) (q : TopOfBook) → signal_refusal c t q ≡ Ok tt → Usable c t q
 unrefused c t q e =
-    let a = first_fine (check_config c) (first_of (refuse_if (wrong_length c t) 7) (check_quote c q)) e in
-    let b = first_fine (refuse_if (wrong_length c t) 7) (check_quote c q) a.1 in
+    let a = first_fine (check_table c t) (check_quote c q) e in
+    let b = first_fine (check_config c) (refuse_if (wrong_length c t) 7) a.0 in
     record {
-      config = valid-unrefused c a.0;
-      table = eqb-true (length t) (7 * states c) (not-false (eqb (length t) (7 * states c)) (if-fine (wrong_length c t) 7 refl b.0));
-      quote = b.1;
+      config = valid-unrefused c b.0;
+      table = eqb-true (length t) (7 * states c) (not-false (eqb (length t) (7 * states c)) (if-fine (wrong_length c t) 7 refl b.1));
+      quote = a.1;
     }

@@ -8,18 +8,17 @@ use Rattle.model.specs.Rows.{row_at}
 use Rattle.model.specs.declared.StateEstimate.{StateEstimate}
 use Rattle.model.specs.declared.StateStatus.{StateStatus}
 use Rattle.model.specs.declared.StateStatus.TheVariants.{Calibrated, Rare, NoPriceMove, OutsideQuotes}
-use Rattle.refusals.specs.Refusals.{refuse_if, first_of, Check}
+use Rattle.refusals.specs.Refusals.{first_of, Check}
 use Rattle.model_signals.specs.declared.MicroPriceSignal.{MicroPriceSignal}
 use Rattle.quotes.specs.declared.At.{At}
 use Rattle.quotes.specs.declared.Reason.{Reason}
 use Rattle.refusals.specs.declared.Refusal.{Refusal}
 use Rattle.refusals.specs.declared.Refusal.TheVariants.{ModelRow}
-use Rattle.config.specs.Configuration.{check_config}
 use Rattle.config.specs.declared.MicroPriceConfig.{MicroPriceConfig}
 use Rattle.quotes.specs.Quotes.{check_quote}
 use Rattle.quotes.specs.States.{place_of}
 use Rattle.quotes.specs.declared.TopOfBook.{TopOfBook}
-use Rattle.model_check.specs.Check.{half_spread_of, has_status, wrong_length}
+use Rattle.model_check.specs.Check.{half_spread_of, has_status, check_table}
 use Rattle.model_signals.specs.declared.SignalSource.{SignalSource}
 use Rattle.model_signals.specs.declared.SignalSource.TheVariants.{MicroPrice, MidFallback, SpreadOutOfRange}
 
@@ -67,7 +66,7 @@ sent_unless (Err r) s = Err r
 
 -- 1, 7, 2, 3, 4
 abbrev pub signal_refusal : MicroPriceConfig → List ℕ → TopOfBook → Check
-signal_refusal c model q = first_of (check_config c) (first_of (refuse_if (wrong_length c model) 7) (check_quote c q))
+signal_refusal c model q = first_of (check_table c model) (check_quote c q)
 
 -- those, then 13 where the row of the quote's state does not serve
 abbrev pub signal_of : MicroPriceConfig → List ℕ → TopOfBook → Result MicroPriceSignal Refusal

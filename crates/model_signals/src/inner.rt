@@ -1,23 +1,23 @@
 // Inner functions of the signal, not for users. Where one has a `requires`, each caller proves it.
-ghost use Rattle.std.specs.Prelude.{◌≡◌, ◌*◌, ◌<◌, length};
+ghost use Rattle.std.specs.Prelude.{◌≡◌, ◌<◌};
 ghost use Rattle.config.specs.Configuration.{states};
-ghost use Rattle.config.specs.Inner.{Valid};
 ghost use Rattle.quotes.specs.Inner.{Accepted};
 ghost use Rattle.quotes.specs.States.{place_of};
-ghost use Rattle.model_signals.specs.Signal.{source_number, row_serves, status_of, source_of, adjustment_of, sent, signal_of_row, signal_at};
+ghost use Rattle.model_signals.specs.Signal.{row_serves, status_of, source_of, adjustment_of, sent, signal_of_row, signal_at};
 
 use super::{MicroPriceSignal, SignalSource};
 use config::MicroPriceConfig;
 use model::{StateEstimate, StateStatus};
-use model_check::inner::has_status;
+use model_check::inner::{ModelTable, has_status};
 use quotes::TopOfBook;
 use refusals::Refusal;
 
-fn row_serves(config: MicroPriceConfig, i: usize, e: StateEstimate) -> bool
-    requires { Valid config × (i < states config) }
-    ensures { result ≡ row_serves config i e }
+#[tactic(auto, unfolding(crate::specs::Signal::row_serves))]
+fn row_serves(table: &ModelTable<'_>, i: usize, e: StateEstimate) -> bool
+    requires { i < states table.now.config }
+    ensures { result ≡ row_serves table.now.config i e }
 {
-    let half = model_check::inner::half_spread_of(config, i);
+    let half = table.half_spread_of(i);
     // The rule is of the word itself: `try_from(e.status).is_ok()` says it less plainly.
     (e.status <= 3)
         & (!has_status(e, StateStatus::Calibrated)
@@ -37,16 +37,6 @@ fn source_of(status: u64) -> SignalSource
     match status_of(status) {
         StateStatus::Calibrated => SignalSource::MicroPrice,
         status => SignalSource::MidFallback(status),
-    }
-}
-
-pub fn source_number(s: SignalSource) -> u64
-    ensures { result ≡ source_number s }
-{
-    match s {
-        SignalSource::MicroPrice => 0,
-        SignalSource::MidFallback(status) => u64::from(status),
-        SignalSource::SpreadOutOfRange => 4,
     }
 }
 
@@ -79,32 +69,27 @@ fn signal_of(
 
 // The signal of an accepted quote in state i.
 fn signal_of_row(
-    config: MicroPriceConfig,
-    model: &[u64],
+    table: &ModelTable<'_>,
     quote: TopOfBook,
     i: usize,
 ) -> Result<MicroPriceSignal, Refusal>
-    requires { Valid config × (length model.now ≡ 7 * states config) × Accepted config quote × (i < states config) }
-    ensures { result ≡ signal_of_row config model.now quote i }
+    requires { Accepted table.now.config quote × (i < states table.now.config) }
+    ensures { result ≡ signal_of_row table.now.config table.now.rows.now quote i }
 {
-    let e = model::inner::read_row(model, i);
-    if !row_serves(config, i, e) {
+    let e = table.row(i);
+    if !row_serves(table, i, e) {
         return Err(Refusal::ModelRow(i));
     }
-    Ok(signal_of(config, quote, adjustment_of(e), source_of(e.status)))
+    Ok(signal_of(table.config, quote, adjustment_of(e), source_of(e.status)))
 }
 
 // The signal of an accepted quote.
-pub fn signal_at(
-    config: MicroPriceConfig,
-    model: &[u64],
-    quote: TopOfBook,
-) -> Result<MicroPriceSignal, Refusal>
-    requires { Valid config × (length model.now ≡ 7 * states config) × Accepted config quote }
-    ensures { result ≡ signal_at config model.now quote (place_of config quote) }
+pub fn signal_at(table: &ModelTable<'_>, quote: TopOfBook) -> Result<MicroPriceSignal, Refusal>
+    requires { Accepted table.now.config quote }
+    ensures { result ≡ signal_at table.now.config table.now.rows.now quote (place_of table.now.config quote) }
 {
-    let Ok(at) = quotes::inner::place_of(config, quote) else {
-        return Ok(signal_of(config, quote, 0.0, SignalSource::SpreadOutOfRange));
+    let Ok(at) = quotes::inner::place_of(table.config, quote) else {
+        return Ok(signal_of(table.config, quote, 0.0, SignalSource::SpreadOutOfRange));
     };
-    signal_of_row(config, model, quote, at.state)
+    signal_of_row(table, quote, at.state)
 }

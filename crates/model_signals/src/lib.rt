@@ -4,10 +4,11 @@
 pub mod inner;
 
 ghost use Rattle.std.specs.Prelude.{◌≡◌};
-ghost use Rattle.model_signals.specs.Signal.{signal_of};
+ghost use Rattle.model_signals.specs.Signal.{source_number, signal_of};
 
 use config::MicroPriceConfig;
 use model::StateStatus;
+use model_check::inner::ModelTable;
 use quotes::TopOfBook;
 use refusals::Refusal;
 
@@ -20,6 +21,18 @@ pub enum SignalSource {
     MidFallback(StateStatus),
     // The mid, for a spread over the configuration's spread states.
     SpreadOutOfRange,
+}
+
+impl From<SignalSource> for u64 {
+    ghost from_gives = { λ source number. number ≡ source_number source };
+
+    fn from(source: SignalSource) -> u64 {
+        match source {
+            SignalSource::MicroPrice => 0,
+            SignalSource::MidFallback(status) => u64::from(status),
+            SignalSource::SpreadOutOfRange => 4,
+        }
+    }
 }
 
 // A fair value at the time of a quote. The sum of mid and adjustment, the Rust's `price`, is not formed.
@@ -43,10 +56,7 @@ pub fn signal(
 ) -> Result<MicroPriceSignal, Refusal>
     ensures { result ≡ signal_of config model.now quote }
 {
-    config.validate()?;
-    if model.len() != 7 * config::inner::state_count(config) {
-        return Err(Refusal::SliceLength);
-    }
+    let table = ModelTable::of(config, model)?;
     quotes::inner::check_quote(config, quote)?;
-    inner::signal_at(config, model, quote)
+    inner::signal_at(&table, quote)
 }

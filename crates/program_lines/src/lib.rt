@@ -1,4 +1,5 @@
-// The lines that the evening program prints (document 01, "Marked and run"). Inner functions: for the crates above. Where one has a `requires`, each caller proves it.
+// The lines that the evening program prints (document 01, "Marked and run"). Inner functions: for the crates above. Where one has a `requires`, each caller
+// proves it.
 #![tactic(auto)]
 
 ghost use Rattle.std.specs.Prelude.{◌≡◌, ◌+◌, ◌*◌, ◌≤◌, ◌<◌, length};
@@ -10,7 +11,7 @@ use calibrator::Counters;
 use program_text::Out;
 use refusals::Refusal;
 
-// A line of a word and a number.
+// A line of a name and a number.
 pub fn put_named(out: &mut Out<'_>, word: &[u8], n: u64)
     requires { out.old.at + length word.now + 21 ≤ length out.old.bytes.now }
     ensures { WroteIn (length word.now + 21) out.old (named word.now n) out.new }
@@ -38,7 +39,7 @@ fn put_bits(out: &mut Out<'_>, w: u64)
     out.text(b" ");
 }
 
-// Word k of row i of a model table.
+// Word k of row i of a model table. By `get`, and not by chunks of seven: nothing is asked of the table's length.
 fn row_word(model: &[u64], i: usize, k: usize) -> u64
     requires { (i < 27) × (k < 7) }
     ensures { result ≡ row_word model.now i k }
@@ -89,7 +90,7 @@ fn put_row(out: &mut Out<'_>, model: &[u64], i: usize)
     put_named(out, b"", row_word(model, i, 6));
 }
 
-// The lines of states 0 to n - 1.
+// The lines of states 0 to n - 1. That n is at most 27, the program's bound, is a clause: a struct of one number would be made anew at each call.
 fn put_rows(out: &mut Out<'_>, model: &[u64], n: usize)
     requires { (n ≤ 27) × (out.old.at + 156 * n ≤ length out.old.bytes.now) }
     ensures { WroteIn (156 * n) out.old (row_lines model.now n) out.new }

@@ -1,14 +1,9 @@
 -- For the contracts and proofs of inner functions alone: an evening's memory before it.
-use Rattle.std.specs.Prelude.{ℕ, ◌+◌, ◌*◌, ◌≡◌, List, Float, pos, replicate, None}
+use Rattle.std.specs.Prelude.{ℕ, ◌+◌, ◌*◌, ◌≡◌, List, Float, pos, replicate}
 use Rattle.floats.specs.Floats.{pos_zero}
 use Rattle.tally.specs.Entries.{Tables}
-use Rattle.calibrator.specs.Inner.{no_counters}
-use Rattle.calibrator.specs.declared.Record.{Record}
 
--- an evening's memory before it: a new calibrator's, with zeros in scratch and in the model table
-abbrev pub new_record : Record
-new_record = record { previous = None; counters = no_counters }
-
+-- for N states: zeros in the tables, in scratch and in the model table
 pub record Zeros (N : ℕ) (t : Tables) (scratch : List Float) (model : List ℕ) : Type 0 where
   pub stay-is : t.stay ≡ replicate (N * N) 0
   pub moved-is : t.moved ≡ replicate (N * N) 0

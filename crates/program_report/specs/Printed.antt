@@ -7,7 +7,7 @@ use Rattle.config.specs.declared.MicroPriceConfig.{MicroPriceConfig}
 use Rattle.tally.specs.Events.{Counts}
 use Rattle.calibrator.specs.Observe.{fresh}
 use Rattle.evening.specs.Evening.{EveningOutcome, calibrated}
-use Rattle.evening.specs.declared.Counted.{Counted}
+use Rattle.recording.specs.declared.Recorded.{Recorded}
 use Rattle.refusals.specs.declared.Refusal.{Refusal}
 use Rattle.program_text.specs.Text.{newline}
 use Rattle.program_text.specs.Reading.{Reading, asked, bad_input, read_text}
@@ -27,7 +27,7 @@ bad_line = 98 ∷ 97 ∷ 100 ∷ 32 ∷ 105 ∷ 110 ∷ 112 ∷ 117 ∷ 116 ∷ 
 -- ---- lines
 
 -- a refusal before the fit; or the counters, which are given but for the invalid quotes, and the fit
-abbrev pub outcome_lines : ℕ → Result Counted Refusal → (ℕ → List ℕ) → List ℕ → List ℕ
+abbrev pub outcome_lines : ℕ → Result Recorded Refusal → (ℕ → List ℕ) → List ℕ → List ℕ
 outcome_lines n (Err r) counters model = named refused_word (number_of r)
 outcome_lines n (Ok d) counters model = counters d.invalid ++ fit_lines d.answer model n
 

@@ -1,4 +1,5 @@
-// What the evening program prints (document 01, "Marked and run"), as a function from the bytes of its input to the bytes of its output. Where a function has a `requires`, each caller proves it.
+// What the evening program prints (document 01, "Marked and run"), as a function from the bytes of its input to the bytes of its output. Where a function has a
+// `requires`, each caller proves it.
 #![tactic(auto)]
 
 ghost use Rattle.std.specs.Prelude.{◌≡◌, ◌+◌, ◌*◌, ◌≤◌, length};
@@ -8,12 +9,12 @@ ghost use Rattle.program_text.specs.Reading.{asked};
 ghost use Rattle.program_lines.specs.Lines.{counter_lines, PutIn};
 ghost use Rattle.program_lines.specs.Inner.{WroteIn};
 ghost use Rattle.program_report.specs.Printed.{outcome_lines, request_config, printed, evening_text, most_bytes, text_for};
-ghost use Rattle.program_report.specs.Inner.{new_record, Zeros};
+ghost use Rattle.program_report.specs.Inner.{Zeros};
 
 use calibrator::{Counters, Record};
 use config::MicroPriceConfig;
-use evening::Counted;
 use program_text::{Out, Request};
+use recording::Recorded;
 use refusals::Refusal;
 use tally::LentTables;
 
@@ -23,7 +24,7 @@ pub const MOST_BYTES: usize = 4350;
 // The lines of an evening's answer, its counters and its model table.
 fn put_outcome(
     out: &mut Out<'_>,
-    answer: Result<Counted, Refusal>,
+    answer: Result<Recorded, Refusal>,
     k: Counters,
     model: &[u64],
     n: usize,
@@ -49,16 +50,6 @@ fn request_config(r: Request) -> MicroPriceConfig
     config::inner::config_of(&words)
 }
 
-// The record of a new calibrator.
-fn new_record() -> Record
-    ensures { result ≡ new_record }
-{
-    Record {
-        previous: None,
-        counters: calibrator::inner::no_counters(),
-    }
-}
-
 // The evening of a request, in memory of zeros, and its lines.
 fn put_evening(
     out: &mut Out<'_>,
@@ -73,7 +64,7 @@ fn put_evening(
         × Zeros n (tables_of tables.old) scratch.old model.old }
     ensures { WroteIn most_bytes out.old (printed (asked r quotes.now)) out.new }
 {
-    let mut rec = new_record();
+    let mut rec = Record::default();
     let answer = evening::calibrate_micro_price(
         &mut rec,
         tables,
@@ -87,20 +78,13 @@ fn put_evening(
     put_outcome(out, answer, rec.counters, model, n);
 }
 
-// Document 01's N.
+// Document 01's N. Not `state_count`: that asks for a valid configuration, and a request's may be refused. That there are at most 27 is
+// a clause: a request may hold any words, and `read_text` says it of what it answers.
 fn states_of(r: Request) -> usize
     requires { r.buckets * r.spread_states ≤ 27 }
     ensures { result ≡ states (request_config r) }
 {
     (r.buckets * r.spread_states) as usize
-}
-
-// Beside cases_shared's: with one for both, each caller would state what bounds its product.
-fn product(a: usize, b: usize) -> usize
-    requires { (a ≤ 27) × (b ≤ 64) }
-    ensures { (result ≡ a * b) × (result ≤ 27 * b) }
-{
-    a * b
 }
 
 // The lines of the evening of a request.
@@ -114,8 +98,8 @@ fn put_request(out: &mut Out<'_>, r: Request, quotes: &[u64])
     let mut scratch = [0.0f64; 1728];
     let mut model = [0u64; 189];
     let n = states_of(r);
-    let cells = product(n, n);
-    let floats = product(n, 2 * n + 10);
+    let cells = n * n;
+    let floats = n * (2 * n + 10);
     let mut tables = LentTables {
         stay: &mut stay[..cells],
         moved: &mut moved[..cells],
@@ -143,7 +127,8 @@ fn put_text(input: &[u8], out: &mut Out<'_>, recording: &mut [u64])
     }
 }
 
-// What the evening program prints for an input, from the front of `out` on, and how many bytes that is. An `out` of fewer than MOST_BYTES bytes stays as it is, and the answer is 0.
+// What the evening program prints for an input, from the front of `out` on, and how many bytes that is. An `out` of fewer than MOST_BYTES bytes stays as it is,
+// and the answer is 0.
 pub fn evening_text(input: &[u8], out: &mut [u8]) -> usize
     ensures { PutIn (length out.old) out.old 0 (text_for (length out.old) input.now) result out.new }
 {

@@ -118,12 +118,6 @@ pub record Reached (text : List ℕ) (first : ℕ) (before : List ℕ) (out : Li
   pub kept-so-far : sets out (s.count - first) (drop (first - s.count) (numbers_ended s (drop i text))) ≡ sets before 0 (drop first (numbers_ended begin text))
 
 module _ (text : List ℕ) (first : ℕ) (before : List ℕ) where
-  pub reached-none : Reached text first before before begin 0
-  reached-none =
-      let p : 0 - first ≡ 0 = omega arith in
-      let q : first - 0 ≡ first = omega arith in
-      record { numbers-same = refl; kept-so-far = λ i. sets before (p i) (drop (q i) (numbers_ended begin text)) }
-
   module _ (out : List ℕ) (s : Scan) (i : ℕ) (r : Reached text first before out s i) where
     pub reached-on : (t : Scan) → i < length text → step_of s (get_or text i 0) ≡ Some t → Reached text first before (kept out first s t) t (i + 1)
     reached-on t h e =

@@ -1,4 +1,5 @@
-// The evening program's text: its reader, and what its lines are written with. Where a function has a `requires`, it is for the crates above, and each caller proves it.
+// The evening program's text: its reader, and what its lines are written with. Where a function has a `requires`, it is for the crates above, and each caller
+// proves it.
 #![tactic(auto)]
 
 ghost use Rattle.std.specs.Prelude.{◌≡◌, ◌+◌, ◌*◌, ◌≤◌, ◌<◌, ◌^◌, [], ◌∷◌, length, IfSome};
@@ -87,7 +88,7 @@ fn take_byte(s: Scan, b: u8) -> Option<Scan>
     }
 }
 
-// Stores a number that ended in its place, counted from number `first` on, if there is one.
+// Stores in its place, counted from number `first` on, a number that has ended, if one has.
 fn keep(out: &mut [u64], first: usize, s: Scan, t: Scan)
     ensures { out.new ≡ kept out.old first s t }
 {
@@ -140,6 +141,7 @@ pub fn read_text(text: &[u8], recording: &mut [u64]) -> Option<Request>
     if !whole_lines(count) || !few_states(head[1], head[2]) {
         return None;
     }
+    // The same text, which is read as before.
     read_numbers(text, 7, recording);
     Some(Request {
         tick: head[0],
@@ -167,7 +169,7 @@ fn hex_digit(d: u64) -> u8
 }
 
 // Lent bytes that are written one after another, and the place of the next. Not by `write!`: it promises the text only where it answers `Ok`, and nothing says
-// that it does where there is room.
+// that it does where there is room. The room is a clause of each function that writes: each write uses some of it, so no field can hold it.
 #[derive(Drop)]
 pub struct Out<'a> {
     pub bytes: &'a mut [u8],

@@ -1,9 +1,20 @@
 -- A quote by itself: document 01, "New, and one quote".
-use Rattle.std.specs.Prelude.{ℕ, ◌+◌, ◌-◌, ◌/◌, ◌%◌, Bool, not, ◌||◌, ◌&&◌, leb, ltb, eqb}
+use Rattle.std.specs.Prelude.{ℕ, ◌+◌, ◌-◌, ◌/◌, ◌%◌, Bool, List, not, ◌||◌, ◌&&◌, leb, ltb, eqb, get_or}
 use Rattle.basics.specs.Domain.{most}
 use Rattle.refusals.specs.Refusals.{refuse_if, first_of, Check}
 use Rattle.config.specs.declared.MicroPriceConfig.{MicroPriceConfig}
 use Rattle.quotes.specs.declared.TopOfBook.{TopOfBook}
+
+-- the quote of five words: time, bid, ask, bid size, ask size
+abbrev pub quote_of_words : List ℕ → TopOfBook
+quote_of_words w =
+    record {
+      timestamp_ms = get_or w 0 0;
+      bid = get_or w 1 0;
+      ask = get_or w 2 0;
+      bid_size = get_or w 3 0;
+      ask_size = get_or w 4 0;
+    }
 
 -- 2: a price or a size over the domain
 abbrev pub over_domain : TopOfBook → Bool

@@ -19,6 +19,14 @@ pub struct Level {
     pub first: usize,
 }
 
+impl Level {
+    // That of state 0.
+    pub const FIRST: Level = Level {
+        spread: 1,
+        first: 0,
+    };
+}
+
 fn is_over(q: TopOfBook) -> bool
     ensures { result ≡ over_domain q }
 {
@@ -31,6 +39,7 @@ fn is_bad(q: TopOfBook) -> bool
     (q.bid == 0) | (q.ask <= q.bid) | ((q.bid_size == 0) & (q.ask_size == 0))
 }
 
+// That the tick is at least 1 is a clause: the field may hold any word, and a `NonZeroU64` beside the configuration would be a second tick.
 fn on_grid(config: MicroPriceConfig, price: u64) -> bool
     requires { 1 ≤ config.tick_size }
     ensures { result ≡ on_grid config price }
@@ -86,6 +95,8 @@ fn bucket_of(bid: u64, ask: u64, n: u64) -> u64
     if bid <= ask { b } else { n - 1 - b }
 }
 
+// `Accepted` is of a quote under a configuration, and a clause: a struct of both would hold a configuration for each quote of a pair, and the two would
+// have to be the same.
 fn spread_of(config: MicroPriceConfig, q: TopOfBook) -> u64
     requires { Valid config × Accepted config q }
     ensures { result ≡ spread_of config q }
@@ -100,7 +111,7 @@ pub fn half_ticks(config: MicroPriceConfig, q: TopOfBook) -> u64
     in_ticks(config, q.bid) + in_ticks(config, q.ask)
 }
 
-// The place of an accepted quote. The mirror's number takes no remainder.
+// The place of an accepted quote. The mirror is counted from the first state of the spread, without a remainder.
 pub fn place_of(config: MicroPriceConfig, q: TopOfBook) -> Result<At, Reason>
     requires { Valid config × Accepted config q }
     ensures { result ≡ place_of config q }
@@ -126,7 +137,8 @@ pub fn mirror_in(n: usize, first: usize, state: usize) -> usize
     first + (n - 1 - (state - first))
 }
 
-// The spread level of the state after `state`, whose own is `level`.
+// The spread level of the state after `state`, whose own is `level`. `HasLevel` is a clause: a struct of level and state would still have to be of the
+// configuration's n.
 pub fn level_after(n: usize, level: Level, state: usize) -> Level
     requires { HasLevel n level state × (n ≤ 256) × (state < 256) }
     ensures { HasLevel n result (state + 1) }

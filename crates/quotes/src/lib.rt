@@ -7,6 +7,7 @@ use refusals::Refusal;
 pub mod inner;
 
 ghost use Rattle.std.specs.Prelude.{◌≡◌};
+ghost use Rattle.quotes.specs.Quotes.{quote_of_words};
 ghost use Rattle.quotes.specs.States.{state_of, mirror_state_of};
 ghost use Rattle.quotes.specs.declared.Reason.TheVariants.{Unusable};
 
@@ -20,6 +21,22 @@ pub struct TopOfBook {
     pub ask_size: u64,
 }
 
+// The quote of its five words.
+impl From<[u64; 5]> for TopOfBook {
+    ghost from_gives = { λ words quote. quote ≡ quote_of_words words };
+
+    fn from(words: [u64; 5]) -> TopOfBook {
+        let [timestamp_ms, bid, ask, bid_size, ask_size] = words;
+        TopOfBook {
+            timestamp_ms,
+            bid,
+            ask,
+            bid_size,
+            ask_size,
+        }
+    }
+}
+
 // A state, by its number, and its mirror's number.
 #[derive(Clone, Copy)]
 pub struct At {
@@ -28,7 +45,7 @@ pub struct At {
 }
 
 // Why a quote has no state.
-#[derive(Clone, Copy)]
+#[derive(Clone, Copy, Debug, PartialEq, Eq)]
 pub enum Reason {
     SpreadOutOfRange,
     // The configuration or the quote is refused.
@@ -44,7 +61,7 @@ impl From<Refusal> for Reason {
 }
 
 // Why two neighbouring quotes are not counted.
-#[derive(Clone, Copy)]
+#[derive(Clone, Copy, Debug, PartialEq, Eq)]
 pub enum Skip {
     Gap,
     Spread,

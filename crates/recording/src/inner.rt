@@ -3,7 +3,7 @@ ghost use Rattle.std.specs.Prelude.{◌≡◌, true, Err, ◌*◌, ◌/◌, ◌�
 ghost use Rattle.basics.specs.Lists.{count};
 ghost use Rattle.tally.specs.Lent.{tables_of, SameSlices};
 ghost use Rattle.calibrator.specs.Record.{memory_with};
-ghost use Rattle.recording.specs.Recording.{quote_at, quotes_of, sorted};
+ghost use Rattle.recording.specs.Recording.{quotes_of, sorted};
 ghost use Rattle.recording.specs.Window.{before, PartIn};
 ghost use Rattle.recording.specs.Observe.{is_invalid, recorded_as};
 ghost use Rattle.recording.specs.Inner.{recorded_of};
@@ -16,20 +16,6 @@ use refusals::Refusal;
 use tally::LentTables;
 
 // ---- the recording
-
-// The quote of its five words.
-fn quote_of(words: &[u64; 5]) -> TopOfBook
-    ensures { result ≡ quote_at words.now 0 }
-{
-    let [timestamp_ms, bid, ask, bid_size, ask_size] = *words;
-    TopOfBook {
-        timestamp_ms,
-        bid,
-        ask,
-        bid_size,
-        ask_size,
-    }
-}
 
 pub fn is_sorted(recording: &[u64]) -> bool
     ensures { result ≡ sorted (quotes_of recording.now) }
@@ -86,7 +72,7 @@ pub fn observe_recording(
         return Recorded { answer, invalid };
     }
     for words in quotes {
-        let answer = calibrator::observe(rec, tables, config, quote_of(words));
+        let answer = calibrator::observe(rec, tables, config, TopOfBook::from(*words));
         if let Err(refusal) = answer {
             if !is_invalid(refusal) {
                 return Recorded { answer, invalid };

@@ -9,21 +9,21 @@ pub mod inner;
 ghost use Rattle.std.specs.Prelude.{◌≡◌};
 ghost use Rattle.recording.specs.Window.{window_of, part_ends, PartIn};
 
-// A part of a recording: its first quote, and the one past its last.
+// A part of a recording: its first quote, and the one past its last. No `Range<usize>`: that is not `Copy`.
 #[derive(Clone, Copy, Default)]
 pub struct Ends {
     pub first: usize,
     pub past: usize,
 }
 
-// What counting a recording comes to: the answer, and the number of invalid quotes, which both answers have: no `Result` of the number.
+// The answer of a count, or of the fit after it, and the number of invalid quotes. Every answer has that number: so it is no value of an `Ok`.
 #[derive(Clone, Copy)]
 pub struct Recorded {
     pub answer: Result<(), Refusal>,
     pub invalid: u64,
 }
 
-// The part of a recording with start ≤ time < end.
+// The part of a recording with start ≤ time < end. They are two numbers, as document 01's operation takes them and the C interface lends them.
 pub fn window_of(recording: &[u64], start: u64, end: u64) -> Result<Ends, Refusal>
     ensures { result ≡ window_of recording.now start end }
 {
@@ -41,7 +41,7 @@ pub fn window_of(recording: &[u64], start: u64, end: u64) -> Result<Ends, Refusa
     Ok(Ends { first, past })
 }
 
-// That part itself, empty exactly if `window_of` refuses or no quote is inside.
+// That part itself, empty exactly if `window_of` refuses or no quote is inside. It cannot fail, as document 01 has it; `window_of` says which.
 pub fn quotes_in(recording: &[u64], start: u64, end: u64) -> &[u64]
     ensures { PartIn (part_ends (window_of recording.now start end)) recording.entry result }
 {

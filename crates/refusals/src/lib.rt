@@ -30,7 +30,7 @@ pub enum Refusal {
 }
 
 impl Refusal {
-    // The number of a refusal.
+    // The number of a refusal. No `From`: the number leaves the row of 13 out.
     pub fn number(self) -> u64
         ensures { result ≡ number_of self }
     {
@@ -68,7 +68,7 @@ impl Refusal {
     }
 }
 
-// 0 if nothing is refused, else the refusal's number.
+// 0 if nothing is refused, else the refusal's number. No `From`: neither `Result` nor `u64` is of this crate.
 pub fn check_number(checked: Result<(), Refusal>) -> u64
     ensures { result ≡ check_number checked }
 {

@@ -43,7 +43,8 @@ impl LentTables<'_> {
     }
 }
 
-// A counted pair and its mirror by their states, with the mid before and after in half ticks.
+// A counted pair and its mirror by their states, with the mid before and after in half ticks. Not `quotes::Pair`: this crate knows no quote, and takes any
+// mirror.
 #[derive(Clone, Copy, Debug, PartialEq, Eq)]
 pub struct PairEntry {
     pub from: usize,
@@ -61,7 +62,7 @@ pub fn may_count(counter: u64) -> bool
     counter < COUNTER_LIMIT
 }
 
-// The place of cell (i, j) in a flat table of n states.
+// The place of cell (i, j) in a flat table of n states. That an index is below a length or a number of states is a clause of each function that takes one.
 pub fn cell(n: usize, i: usize, j: usize) -> usize
     requires { (n ≤ 256) × (i < n) × (j < n) }
     ensures { (result ≡ cell_index n i j) × (result < n * n) }

@@ -1,4 +1,5 @@
-// Signed totals and the changes that are added to them. Inner functions: for the crates above, not for users. Where one has a `requires`, each caller proves it.
+// Signed totals and the changes that are added to them. Inner functions: for the crates above, not for users. Where one has a `requires`, each caller proves
+// it.
 ghost use Rattle.std.specs.Prelude.{◌≡◌, ◌≤◌, nat_abs, ◌+ℤ◌};
 ghost use Rattle.basics.specs.Domain.{most_half_ticks};
 ghost use Rattle.tally.specs.Totals.{change, within};

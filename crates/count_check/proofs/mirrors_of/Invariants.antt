@@ -8,4 +8,4 @@ use Rattle.quotes.specs.Inner.{HasLevel}
 use Rattle.count_check.proofs.mirrors_of.Given as goal
 
 abbrev pub invariant-loop-i : goal.invariant-loop-i
-invariant-loop-i l = (length l.r ≡ 256) × ((k : ℕ) → k < l.i → get_or l.r k 0 ≡ mirror_of l.w k) × HasLevel l.w l.level l.i
+invariant-loop-i l = ((k : ℕ) → k < l.i → get_or l.mirror-items k 0 ≡ mirror_of l.w k) × HasLevel l.w l.level l.i

@@ -9,8 +9,8 @@ returns-in_err-call-clause-runs c =
 pub loop-k-preserved : goal.loop-k-preserved
 loop-k-preserved c = (
   replaying-step c.loop-k.invariant.0 c.as_chunks.ensures.front c.call_of.ensures c.loop-k-test.true c.in_ok-call.was
-      c.replay_call.ensures.steps c.replay_call.auto.room,
-  same-again c.loop-k.invariant.1 c.replay_call.ensures.same_slices,
+      (rw c.done_number.ensures c.replay_call-done.ensures.steps) c.replay_call-done.auto.room,
+  same-again c.loop-k.invariant.1 c.replay_call-done.ensures.same_slices,
 )
 
 pub returns-clause-runs : goal.returns-clause-runs

@@ -7,4 +7,4 @@ use Rattle.program_report.proofs.put_request.Goals as goal
 pub put_evening-requires : goal.put_evening-requires
 put_evening-requires c =
     let few : c.states_of-n.result ≤ 27 = omega arith in
-    (c.states_of-n.ensures, few, omega arith, cut-zeros few c.product-cells.ensures c.product-floats.ensures)
+    (c.states_of-n.ensures, few, omega arith, cut-zeros few)

@@ -6,7 +6,7 @@ use native.Mathlib.Omega.{arith}
 use Rattle.std.proofs.Common.{rules}
 use Rattle.tally.specs.Lent.{tables_in}
 use Rattle.calibrator.specs.Record.{memory_with}
-use Rattle.fit.proofs.Known.{fit-known, exact-of, usable-of, scratch-of, whole}
+use Rattle.fit.proofs.Known.{fit-known, exact-of, usable-of, whole}
 use Rattle.fit.proofs.inner.fit_counts_with.Goals as goal
 
 pub mirrors_of-mirrors-requires : goal.mirrors_of-mirrors-requires
@@ -21,12 +21,6 @@ state_count-requires c =
     let f = fit-known a.config (memory_with a.rec (tables_in a.tables)) _ _ (sym c.check_fit.ensures ∙ c.in_ok-check_fit.was) in
     f.conf
 
-pub invariant_of-pairs : goal.invariant_of-pairs
-invariant_of-pairs c =
-    let a = c.args in
-    let f = fit-known a.config (memory_with a.rec (tables_in a.tables)) _ _ (sym c.check_fit.ensures ∙ c.in_ok-check_fit.was) in
-    record { fitting = rw c.state_count.ensures (exact-of f).cells }
-
 pub invariant_of-tables : goal.invariant_of-tables
 invariant_of-tables c =
     let a = c.args in
@@ -40,15 +34,9 @@ invariant_of-input c =
     let m = c.mirrors_of-mirrors in
     record { usable = rw c.state_count.ensures (usable-of f m.result (omega (arith, m.type_inv)) m.ensures) }
 
-pub fit_states-answer-requires : goal.fit_states-answer-requires
-fit_states-answer-requires c =
-    let a = c.args in
-    let f = fit-known a.config (memory_with a.rec (tables_in a.tables)) _ _ (sym c.check_fit.ensures ∙ c.in_ok-check_fit.was) in
-    rw c.state_count.ensures (scratch-of a.scratch.now f, f.model-long)
-
 pub returns : goal.returns
 returns c =
     let a = c.args in
-    whole a.rounds a.moves a.config (memory_with a.rec (tables_in a.tables)) a.model.now _ a.scratch.now _ _
+    whole a.rounds.series a.rounds.fallback a.config (memory_with a.rec (tables_in a.tables)) a.model.now _ a.scratch.now _ _
     _ c.mirrors_of-mirrors.result c.state_count.ensures (sym c.check_fit.ensures ∙ c.in_ok-check_fit.was)
     c.mirrors_of-mirrors.ensures c.fit_states-answer.ensures (search rules)

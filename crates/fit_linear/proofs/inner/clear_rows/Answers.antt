@@ -1,11 +1,8 @@
 use Rattle.std.proofs.Common.{◌+◌, ◌-◌, ◌*◌, ◌≡◌, length, arith}
 use Rattle.basics.proofs.Tests.{row_in}
 use Rattle.fit_linear.specs.Inner.{float_at}
-use Rattle.fit_linear.proofs.Rows.{rows-none, rows-more, row-cleared}
+use Rattle.fit_linear.proofs.Rows.{rows-more, row-cleared}
 use Rattle.fit_linear.proofs.inner.clear_rows.Goals as goal
-
-pub loop-r-init : goal.loop-r-init
-loop-r-init c = rows-none
 
 pub loop-r-preserved : goal.loop-r-preserved
 loop-r-preserved c =

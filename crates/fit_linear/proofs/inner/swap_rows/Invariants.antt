@@ -1,4 +1,4 @@
--- `fit_linear::inner::swap_rows` meets its contract: rows c and p change places. A row with itself: nothing is done (`swapped-self`). Else the invariant: the
+-- `fit_linear::inner::swap_rows` meets its contract: rows c and p change places. A row with itself: nothing is done. Else the invariant: the
 -- first k floats of the two rows have changed places, all else is as it was (`Swapped`). Two rows are apart (`rows_apart`), so one exchange
 -- touches no other float of them (`swapped-more`). At the end k is w.
 use Rattle.fit_linear.specs.Inner.{Swapped}

@@ -1,6 +1,6 @@
-use Rattle.std.proofs.Common.{◌≡◌, refl, arith}
+use Rattle.std.proofs.Common.{refl, arith}
 use Rattle.std.specs.Float.Ieee.{of_bits, neg}
-use Rattle.fit_series.proofs.Products.{dotting-none, dotting-more, dotting-next, dotting-all}
+use Rattle.fit_series.proofs.Products.{dotting-none, dotting-more}
 use Rattle.fit_series.proofs.inner.dots.Goals as goal
 
 pub loop-k-init : goal.loop-k-init
@@ -9,11 +9,3 @@ loop-k-init g c = dotting-none
 
 pub loop-r-preserved : goal.loop-r-preserved
 loop-r-preserved g c = dotting-more c.loop-r.invariant (omega arith) refl
-
-pub loop-k-preserved : goal.loop-k-preserved
-loop-k-preserved g c = dotting-next c.loop-r.invariant (omega arith)
-
-pub returns : goal.returns
-returns g c =
-    let all : c.loop-k.k ≡ c.args.n = omega arith in
-    rw all at (dotting-all c.loop-k.invariant)

@@ -10,20 +10,20 @@ pub returns-in_default : goal.returns-in_default
 returns-in_default c least m =
     let a = c.args in
     let C = cells_in a.self.now.pairs least in
-    solved-singular a.rounds a.moves C (total_of a.self.now.move_half_ticks.now) _ _ _ (c.fill_system.ensures least m)
+    solved-singular a.rounds.series a.rounds.fallback C (total_of a.self.now.move_half_ticks.now) _ _ _ (c.fill_system.ensures least m)
     (rw c.in_default.is at c.gauss_jordan.ensures)
 
 pub returns-in_default-sum_series : goal.returns-in_default-sum_series
 returns-in_default-sum_series c least m =
     let a = c.args in
     let C = cells_in a.self.now.pairs least in
-    solved-not-summed a.rounds a.moves C (total_of a.self.now.move_half_ticks.now) _ _ _ (c.fill_system.ensures least m)
+    solved-not-summed a.rounds.series a.rounds.fallback C (total_of a.self.now.move_half_ticks.now) _ _ _ (c.fill_system.ensures least m)
     (rw c.in-Ok.is at c.gauss_jordan.ensures) _ _ c.sum_series.ensures c.in_default-sum_series.is
 
 pub returns : goal.returns
 returns c least m =
     let a = c.args in
     let C = cells_in a.self.now.pairs least in
-    solved-summed a.rounds a.moves C (total_of a.self.now.move_half_ticks.now) _ _ _ (c.fill_system.ensures least m)
+    solved-summed a.rounds.series a.rounds.fallback C (total_of a.self.now.move_half_ticks.now) _ _ _ (c.fill_system.ensures least m)
     (rw c.in-Ok.is at c.gauss_jordan.ensures) _ _ c.sum_series.ensures _
     c.fallback_within_moves.ensures c.in-Ok-sum_series.is

@@ -7,6 +7,6 @@ use Rattle.model_signals.proofs.inner.signal_at.Goals as goal
 
 pub signal_of_row-requires : goal.signal_of_row-requires
 signal_of_row-requires c =
-    let p = c.requires in
-    let l = place-located c.args.config c.args.quote p.0 _ (sym c.in-Ok.ensures) in
-    (p.0, p.1, p.2, omega (arith, l.below, l.mirror-below))
+    let table = c.args.table.now in
+    let l = place-located table.config c.args.quote table.valid _ (sym c.in-Ok.ensures) in
+    (c.requires, omega (arith, l.below, l.mirror-below))

@@ -14,13 +14,13 @@ pub returns-then-not-is_invalid-clause-left : goal.returns-then-not-is_invalid-c
 returns-then-not-is_invalid-clause-left c =
     let fives = c.as_chunks.ensures in
     observing-stop (sym fives.back_len ∙ eqb-true _ 0 (sym c.is_empty.ensures ∙ c.if-not-is_empty.false)) c.loop-words.invariant.0 (omega arith)
-    (c.quote_of.ensures ∙ five-quote c.args.recording.now _ fives.front fives.front_len c.loop-words.words-index _ (omega arith)) c.in-Err.ensures.left
+    (c.from.ensures ∙ five-quote c.args.recording.now _ fives.front fives.front_len c.loop-words.words-index _ (omega arith)) c.in-Err.ensures.left
     (ap not (sym c.is_invalid.ensures ∙ c.if-not-is_invalid.true))
 
 pub loop-words-preserved : goal.loop-words-preserved
 loop-words-preserved c =
     let fives = c.as_chunks.ensures in
-    let quoted = c.quote_of.ensures ∙ five-quote c.args.recording.now _ fives.front fives.front_len c.loop-words.words-index _ (omega arith) in
+    let quoted = c.from.ensures ∙ five-quote c.args.recording.now _ fives.front fives.front_len c.loop-words.words-index _ (omega arith) in
     let same = same-again c.loop-words.invariant.1 c.observe-answer.ensures.same_slices in
     elim c.match-answer.branch [
       | in-Err+else-not-is_invalid w ↦

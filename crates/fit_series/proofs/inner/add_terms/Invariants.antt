@@ -1,9 +1,0 @@
--- `fit_series::inner::add_terms` meets its contract: terms are added on. Invariant: from what stands in sum and term, the rest of the run with the rounds that
--- are left is the whole run's (`Running`). The ways out: an infinite largest (`run-infinite`), a largest below 1e-12 (`run-tiny`), no rounds left (`run_out`).
--- Else a round more has been made (`run_more`).
-use Rattle.std.proofs.Common.{◌-◌}
-use Rattle.fit_series.proofs.Rounds.{Running}
-use Rattle.fit_series.proofs.inner.add_terms.Given as goal
-
-abbrev pub invariant-loop-made : goal.invariant-loop-made
-invariant-loop-made l = Running l.at.n l.rounds (l.rounds - l.made) l.fn.s l.s
