@@ -112,4 +112,5 @@ module _ (c w s m : List ℕ) (t : List ℤ) (calls room numbers : List ℕ) whe
   -- a replay is the run of its calls; and of a calibrator's own calls, what their history says
   pub record PromisedWords (r : LentReplay) : Type 0 where
     pub run_is : r ≡ replay_words
-    pub history-is : encoded c w ≡ true → (o : OwnCalls (config_of c) (site (record_of w) (tables s m t) room) calls numbers) → r ≡ replay_history_words o.before
+    pub history-is : encoded c w ≡ true → (o : OwnCalls (config_of c) (site (record_of w) (tables s m t) room) calls numbers)
+        → r ≡ replay_history_words o.before

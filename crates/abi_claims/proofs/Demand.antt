@@ -106,5 +106,6 @@ module _ (c w s m : List ℕ) (t : List ℤ) where
               (whole.model model scratch (zero-fine f.answer (ap (λ (x : LentFit). x.answer) (sym is) ∙ zero_is)));
           signal-is =
               λ model q out row long.
-              λ i. cond (made.config i && eq-eqb (length out) signal_length long i) (of_signalled (signal_of d model q) out row) (lent_signal bad_encoding out row);
+              λ i. cond (made.config i && eq-eqb (length out) signal_length long i) (of_signalled (signal_of d model q) out row)
+              (lent_signal bad_encoding out row);
         }

@@ -86,7 +86,8 @@ module _ (c : List ℕ) (config : is_config c ≡ true) where
 
     -- a call that is made
     act-words : (k : WordCall) → is_made k ≡ true
-        → act_words c (memory_in_words m) k ≡ record { answer = answer_in_words k (act d m (call_of k)).answer; left = memory_in_words (act d m (call_of k)).left }
+        → act_words c (memory_in_words m) k
+        ≡ record { answer = answer_in_words k (act d m (call_of k)).answer; left = memory_in_words (act d m (call_of k)).left }
     act-words (observing q) made =
         (λ i.
         let l = cond (words-encoded i) (of_outcome (record_words_of m) (observed d (memory-from-words i) q)) (lent bad_encoding (record_words_of m) s v t) in
@@ -94,13 +95,17 @@ module _ (c : List ℕ) (config : is_config c ≡ true) where
         ∙ go (refusal_by (rule d) (judge d) m q)
       where
         go : (k : Check) → let o = answered k m (step (rule d) m q) in
-            ◌≡◌ {A = WordsActed} (record { answer = observe_answer (of_outcome (record_words_of m) o).answer; left = lent_memory (of_outcome (record_words_of m) o) })
+            ◌≡◌ {A = WordsActed}
+            (record { answer = observe_answer (of_outcome (record_words_of m) o).answer; left = lent_memory (of_outcome (record_words_of m) o) })
             (record { answer = observe_answer (of_outcome (record_words_of m) o).answer; left = memory_in_words o.left })
         go (Ok _) = refl
         go (Err r) = refl
     act-words (saving out) made =
         λ i.
-        record { answer = save_answer (cond (words-encoded i) (of_saved (saved d (memory-from-words i) out)) (lent_out bad_encoding out)); left = memory_in_words m }
+        record {
+          answer = save_answer (cond (words-encoded i) (of_saved (saved d (memory-from-words i) out)) (lent_out bad_encoding out));
+          left = memory_in_words m;
+        }
     act-words (restoring b e l) made =
         (λ i.
         let x = cond (made i) (of_taken e l.rec (restored b lent')) (lent_back e (lent bad_encoding l.rec l.stay l.moved l.totals)) in

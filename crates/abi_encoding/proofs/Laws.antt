@@ -27,7 +27,8 @@ record-words-long (Some q) k t = refl
 
 module _ (w : List ℕ) where
   pub record-long : is_record w ≡ true → length w ≡ record_length
-  record-long e = ap length (same-equal w (record_words_of (memory (record_of w) [] [] [])) e) ∙ record-words-long (previous_of w) (counters_of w) (tables [] [] [])
+  record-long e =
+      ap length (same-equal w (record_words_of (memory (record_of w) [] [] [])) e) ∙ record-words-long (previous_of w) (counters_of w) (tables [] [] [])
 
   pub no_record : (length w ≡ record_length → ⊥) → is_record w ≡ false
   no_record h = fails (is_record w) (λ e. h (record-long e))
@@ -41,7 +42,8 @@ pub record-back : (r : Record) (s m : List ℕ) (t : List ℤ) → record_of (re
 record-back r s m t = record-back-of r.previous r.counters s m t
 
 -- what is written is a record's
-written_of : (l : Previous) (k : Counters) (s m : List ℕ) (t : List ℤ) → is_record (record_words_of (memory (record { previous = l; counters = k }) s m t)) ≡ true
+written_of : (l : Previous) (k : Counters) (s m : List ℕ) (t : List ℤ)
+    → is_record (record_words_of (memory (record { previous = l; counters = k }) s m t)) ≡ true
 written_of None k s m t = simp eqb_same
 written_of (Some q) k s m t = simp eqb_same
 

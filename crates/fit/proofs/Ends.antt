@@ -101,7 +101,8 @@ pub marks-of : (C : Cells) (before after : List StateStatus) → C.states ≤ le
 marks-of C before after h m = record { enough = h; each = marked-is C before after m }
 
 -- whether one of the first n marks is Calibrated, asked by the derived equality
-pub marked-used : (C : Cells) (marks : List StateStatus) → Marks C marks → list_any (λ m. (StatusImpl.ghosts).eq m Calibrated) (take C.states marks) ≡ some_to C.states (used C)
+pub marked-used : (C : Cells) (marks : List StateStatus) → Marks C marks
+    → list_any (λ m. (StatusImpl.ghosts).eq m Calibrated) (take C.states marks) ≡ some_to C.states (used C)
 marked-used C marks m =
     some-first (λ m. (StatusImpl.ghosts).eq m Calibrated) C.states marks Calibrated m.enough
     ∙ some_same C.states _ (used C) (λ i h. equal (mark_at marks i) ∙ ap is_calibrated (m.each i h))

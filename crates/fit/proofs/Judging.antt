@@ -93,7 +93,8 @@ pub table_more : (n i : ℕ) (rows : ℕ → StateEstimate) (e : StateEstimate) 
     → sets m (7 * i) (row_words e) ≡ sets l 0 (table_of (i + 1) rows)
 table_more n i rows e l m is-e is_m =
     (λ j. sets (is_m j) (7 * i) (row_words (is-e j)))
-    ∙ ap (λ k. sets (sets l 0 (table_of i rows)) k (row_words (rows i))) (let q : 7 * i ≡ 0 + length (table_of i rows) = omega (arith, length-table i rows) in q)
+    ∙ ap (λ k. sets (sets l 0 (table_of i rows)) k (row_words (rows i)))
+    (let q : 7 * i ≡ 0 + length (table_of i rows) = omega (arith, length-table i rows) in q)
     ∙ sym (sets-append (table_of i rows) (row_words (rows i)) l 0)
     ∙ ap (λ k. sets l 0 (table_of k rows)) (sym (add-one i))
 

@@ -104,7 +104,8 @@ module _ (N least : ℕ) (stay moved : List ℕ) where
           let t : leads_to N stay m i j ≡ true = rw (lt-ltb 0 (cell_at N stay i j) p, k) refl in
           absurd (false≢true (sym f ∙ t))
 
-  pub all-marked : (before l m : List StateStatus) → N ≤ length l → FirstMarks N least stay moved before l → Led N stay l m → Closed N stay m → Marked C before m
+  pub all-marked : (before l m : List StateStatus) → N ≤ length l → FirstMarks N least stay moved before l → Led N stay l m → Closed N stay m
+      → Marked C before m
   all-marked before l m r f q c = record {
     marks = λ i h. go i h (s i h);
     elsewhere = λ i h. led-elsewhere N stay l m r q i h ∙ f.elsewhere i h;

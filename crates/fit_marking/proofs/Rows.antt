@@ -49,7 +49,8 @@ module _ {A : Type 0} (p : A → Bool) where
 pub some-first : {A : Type 0} (p : A → Bool) (n : ℕ) (l : List A) (d : A) → n ≤ length l → list_any p (take n l) ≡ some_to n (λ k. p (get_or l k d))
 some-first p n l d h =
     ap (list_any p)
-    (sym (tab-get_or (take n l) n d (omega (arith, length-take n l))) ∙ tab-ext n (λ k. get_or (take n l) k d) (λ k. get_or l k d) (λ k b. get_or-take n l k d b))
+    (sym (tab-get_or (take n l) n d (omega (arith, length-take n l)))
+    ∙ tab-ext n (λ k. get_or (take n l) k d) (λ k. get_or l k d) (λ k b. get_or-take n l k d b))
     ∙ some-tab p n (λ k. get_or l k d)
 
 pub zip-tab : {A B : Type 0} (n : ℕ) (f : ℕ → B) (l : List A) (d : A) → n ≤ length l → zip (tab n f) l ≡ tab n (λ k. (f k, get_or l k d))
@@ -59,7 +60,8 @@ zip-tab (suc n) f (x ∷ xs) d h = ap (λ r. (f 0, x) ∷ r) (zip-tab n (λ k. f
 
 -- ---- sums
 
-pub row_fits : (n : ℕ) (stay moved : List ℕ) (x : ℕ) → Fitting n stay moved → x < n → sum_to n (cell_at n stay x) + sum_to n (cell_at n moved x) ≤ 2 * counter_limit
+pub row_fits : (n : ℕ) (stay moved : List ℕ) (x : ℕ) → Fitting n stay moved → x < n
+    → sum_to n (cell_at n stay x) + sum_to n (cell_at n moved x) ≤ 2 * counter_limit
 row_fits n stay moved x f h =
     let r = row_in x n n h in
     let a = part-below stay (x * n) n (omega arith) in

@@ -29,7 +29,8 @@ rounds-fine series fallback r =
     rw (le-ltb series 1 r.some, le-ltb most_series_rounds series r.series-most, le-ltb most_fallback_rounds fallback r.fallback-most)
 
 -- more series rounds, up to the limit
-pub rounds-more : (series more fallback : ℕ) → series ≤ more → more ≤ most_series_rounds → wrong_rounds series fallback ≡ false → wrong_rounds more fallback ≡ false
+pub rounds-more : (series more fallback : ℕ) → series ≤ more → more ≤ most_series_rounds → wrong_rounds series fallback ≡ false
+    → wrong_rounds more fallback ≡ false
 rounds-more series more fallback h limit e =
     let r = rounds-known series fallback e in
     rounds-fine more fallback (record { some = omega (arith, r.some); series-most = limit; fallback-most = r.fallback-most })

@@ -150,7 +150,8 @@ module _ {n rounds left : ℕ} {l m m' : List Float} {x : Float} (more : 0 < lef
   one_more = omega arith
 
   -- the run ends here, with the sum and the term of this round
-  ends : (s : Series Float) (answer : Result ⊤ NotConverged) → summed rounded n B left r.total r.last ≡ s → answer ≡ sum_answer s → series_sum s ≡ total → series_term s ≡ next
+  ends : (s : Series Float) (answer : Result ⊤ NotConverged) → summed rounded n B left r.total r.last ≡ s → answer ≡ sum_answer s → series_sum s ≡ total
+      → series_term s ≡ next
       → Summed n rounds (summed rounded n B rounds (from (sum_at n) l) (from (term_at n) l)) l answer m'
   unfolding B
   ends s answer e is st nt =
@@ -163,7 +164,8 @@ module _ {n rounds left : ℕ} {l m m' : List Float} {x : Float} (more : 0 < lef
         elsewhere = elsewhere';
       })
 
-  pub run-infinite : is_infinite x ≡ true → Summed n rounds (summed rounded n (solved_b n l) rounds (from (sum_at n) l) (from (term_at n) l)) l (Err (record {})) m'
+  pub run-infinite : is_infinite x ≡ true
+      → Summed n rounds (summed rounded n (solved_b n l) rounds (from (sum_at n) l) (from (term_at n) l)) l (Err (record {})) m'
   unfolding summed next total B
   run-infinite h = ends (not_converged total next) (Err (record {})) (rw (one_more, ← size, h)) refl refl refl
 
@@ -268,7 +270,8 @@ shares-none h = record { shares = h; nexts = λ k g. refl; elsewhere = λ i h g.
 
 pub shares-more : {n done : ℕ} {l m m' : List Float}
     → Shared n done (share_after rounded n (solved_b n l) (solved_f n l) done) (last_product n (solved_b n l) (solved_f n l) done) l m
-    → Shared n 1 (plus rounded (solved_f n m) (times rounded n (solved_b n m) (from (share_at n) m))) (times rounded n (solved_b n m) (from (share_at n) m)) m m'
+    → Shared n 1 (plus rounded (solved_f n m) (times rounded n (solved_b n m) (from (share_at n) m)))
+    (times rounded n (solved_b n m) (from (share_at n) m)) m m'
     → Shared n (done + 1) (share_after rounded n (solved_b n l) (solved_f n l) (done + 1)) (last_product n (solved_b n l) (solved_f n l) (done + 1)) l m'
 unfolding share_after
 shares-more {n} {done} {l} {m} s r =

@@ -58,9 +58,15 @@ row-exact {n} {stay} {moved} {totals} {x} e h =
     let r = row-in-tables e.cells h in
     record {
       stay-in = r.stay-in;
-      stay-exact = λ k g. let b : k < n = omega (arith, length-row n stay x r.stay-in) in omega (arith, row-at n stay x k b, cell_below n k (cell_at n stay x) b);
+      stay-exact =
+          λ k g.
+          let b : k < n = omega (arith, length-row n stay x r.stay-in) in
+          omega (arith, row-at n stay x k b, cell_below n k (cell_at n stay x) b);
       moved_in = r.moved_in;
-      moved-exact = λ k g. let b : k < n = omega (arith, length-row n moved x r.moved_in) in omega (arith, row-at n moved x k b, cell_below n k (cell_at n moved x) b);
+      moved-exact =
+          λ k g.
+          let b : k < n = omega (arith, length-row n moved x r.moved_in) in
+          omega (arith, row-at n moved x k b, cell_below n k (cell_at n moved x) b);
       total-in = omega (arith, e.totals-long);
       total-exact = e.totals-exact x h;
       observed-exact = λ mark. few (is_calibrated mark);

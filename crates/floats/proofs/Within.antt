@@ -123,7 +123,8 @@ values-le (fin false m e) (fin false n g) a c b d v w h =
 ask-is : (b a : ℕ) → b ≤ a → b + a < exact_whole → add binary64 (half (b + a)) (half (a - b)) ≡ from_int (pos a)
 unfolding of_int
 ask-is b a h k =
-    add_at_lem binary64 (half (b + a)) (half (a - b)) (b + a) 2 (a - b) 2 (zero-lt-suc 1) (zero-lt-suc 1) (half-exact (b + a) k) (half-exact (a - b) (omega arith))
+    add_at_lem binary64 (half (b + a)) (half (a - b)) (b + a) 2 (a - b) 2 (zero-lt-suc 1) (zero-lt-suc 1) (half-exact (b + a) k)
+    (half-exact (a - b) (omega arith))
     ∙ round_same binary64 false ((b + a) * 2 + (a - b) * 2) 4 a 1 (zero-lt-suc 3) (zero-lt-suc 0) (omega arith)
 
 bid-is : (b a : ℕ) → b ≤ a → b + a < exact_whole → add binary64 (half (b + a)) (neg (half (a - b))) ≡ from_int (pos b)

@@ -89,7 +89,8 @@ module _ (c : MicroPriceConfig) (e : valid c ≡ true) (fits : ConfigWords c) wh
   pub refusal_is : (H : History) → Sound H → (q : TopOfBook) → refusal_by (rule c) (judge c) (history_memory c H) q ≡ history_refusal c H q
   refusal_is H h q =
       quote-first c e (history_memory c H) h.holds q
-      ∙ ap (λ (m : Memory Previous). first_of (first_of (check_quote c q) (refuse_if (earlier (history_memory c H).last q) 5)) (refuse_if (over_limit m.counts) 6))
+      ∙ ap (λ (m : Memory Previous). first_of (first_of (check_quote c q) (refuse_if (earlier (history_memory c H).last q) 5))
+      (refuse_if (over_limit m.counts) 6))
       (grown H q)
 
   sound-gains : (H : History) → Sound H → (q : TopOfBook) → AllWords (previous_words (Some q)) → history_refusal c H q ≡ Ok tt → Sound (gains H q)
@@ -168,7 +169,8 @@ module _ (c : MicroPriceConfig) (e : valid c ≡ true) (fits : ConfigWords c) wh
       m : Memory Previous
       m = history_memory c P.now
 
-      other : (a : Result MicroPriceConfig Refusal) (filled : Memory Previous) → T (is_refused a) → Agrees (acted (restores a) (after_restore a m filled)) (history_acted (restores a) P)
+      other : (a : Result MicroPriceConfig Refusal) (filled : Memory Previous) → T (is_refused a)
+          → Agrees (acted (restores a) (after_restore a m filled)) (history_acted (restores a) P)
       other (Ok d) filled f = absurd f
       other (Err r) filled f = record { answers = refl; memories = refl; good = G }
 

@@ -127,7 +127,8 @@ module _ (c : MicroPriceConfig) where
 
   -- where nothing stops the count and the history answers as the operations do, it gains those
   history-run-quotes : (qs : List TopOfBook) (P : Past) (k : ℕ) (m : Memory Previous) → (recorded c qs k m).answer ≡ Ok tt
-      → (run c m (calls_of qs)).answers ≡ (history_run c P (calls_of qs)).answers → (history_run c P (calls_of qs)).past.now ≡ joined P.now (filter (usable c) qs)
+      → (run c m (calls_of qs)).answers ≡ (history_run c P (calls_of qs)).answers
+      → (history_run c P (calls_of qs)).past.now ≡ joined P.now (filter (usable c) qs)
   history-run-quotes [] P k m fine e = ap (λ l. record { start = P.now.start; quotes = l }) (sym (append-nil P.now.quotes))
   history-run-quotes (q ∷ qs) P k m fine e =
       let K : Check = history_refusal c P.now q in
@@ -325,7 +326,8 @@ module _ (c : MicroPriceConfig) (fits : ConfigWords c) (m : Memory Previous) (w 
     where
       go : (a b d e f g : Bool)
           → Each (λ r. RefusedEvening c m qs t l (end_evening (Err r) m t l) r)
-          (first_of (first_of (refuse_if a 7) (first_of (refuse_if b 14) (refuse_if d 15))) (first_of (first_of (refuse_if e 1) (refuse_if f 7)) (refuse_if g 7)))
+          (first_of (first_of (refuse_if a 7) (first_of (refuse_if b 14) (refuse_if d 15)))
+          (first_of (first_of (refuse_if e 1) (refuse_if f 7)) (refuse_if g 7)))
       go true b d e f g = unchanged-evening SliceLength refl refl
       go false true d e f g = unchanged-evening RecordingUnsorted refl refl
       go false false true e f g = unchanged-evening WindowBackward refl refl

@@ -281,7 +281,8 @@ counts-small N mirror k e =
     (first_of (first_from (check_state N mirror k.tables) 0 N) (refuse_if (not (is_twice k.pairs k.tables)) 11)) e in
     (neither (over_counter k.pairs || any over_counter k.skips) (any over_total k.tables.totals) (if-fine (stored_over k) 6 refl f.0)).1
 
-save-fine : (x : Check) (before written : List ℕ) → (saved_unless x before written).answer ≡ Ok tt → (x ≡ Ok tt) × ((saved_unless x before written).output ≡ written)
+save-fine : (x : Check) (before written : List ℕ) → (saved_unless x before written).answer ≡ Ok tt
+    → (x ≡ Ok tt) × ((saved_unless x before written).output ≡ written)
 save-fine (Ok _) before written e = (refl, refl)
 save-fine (Err r) before written e = absurd (zero-not-one cc)
 

@@ -54,10 +54,12 @@ laid-out-at form b c r h s long read ec er eh es el = rw (read, es, eh, el, ec, 
 same-form : (b : List ℕ) (c : MicroPriceConfig) (l : Previous) (k : Counts) → same_words (header_in newest b) (header newest c l k) ≡ true → form_in b ≡ newest
 unfolding header header_in
 same-form b c l k e =
-    ap (λ (w : ℕ). w / 8) (sym (words-at newest 6 b (omega arith)) ∙ ap (λ (ws : List ℕ). get_or ws 6 0) (same-equal (words_of newest b) (header newest c l k) e))
+    ap (λ (w : ℕ). w / 8)
+    (sym (words-at newest 6 b (omega arith)) ∙ ap (λ (ws : List ℕ). get_or ws 6 0) (same-equal (words_of newest b) (header newest c l k) e))
 
 -- as code makes it: it compares with the newest header, as no other form is read
-pub laid-out-is : (b : List ℕ) (c : MicroPriceConfig) (r : Record) (h : List ℕ) (s : Bool) (long : ℕ) → c ≡ config_in (form_in b) b → r ≡ record_in (form_in b) b
+pub laid-out-is : (b : List ℕ) (c : MicroPriceConfig) (r : Record) (h : List ℕ) (s : Bool) (long : ℕ) → c ≡ config_in (form_in b) b
+    → r ≡ record_in (form_in b) b
     → h ≡ header newest c r.previous (counts_of r.counters (tables [] [] [])) → s ≡ same_words (header_in newest b) h → long ≡ image_length newest c
     → (s && eqb (length b) long) ≡ laid_out (form_in b) b
 laid-out-is b c r h s long ec er eh es el = go (is_read (form_in b)) refl

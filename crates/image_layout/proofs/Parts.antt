@@ -40,7 +40,8 @@ then o xs ys i j e =
 -- four parts, each where the one before it ends, are one list
 four-parts : (form : ℕ) (o h s m t : List ℕ) (C N : ℕ) → length h ≡ form → length s ≡ C → length m ≡ C → length t ≡ N
     → length o ≡ header_length form + 16 * C + 8 * N
-    → sets (sets (sets (sets o 0 (bytes_of h)) (header_length form) (bytes_of s)) (header_length form + 8 * C) (bytes_of m)) (header_length form + 16 * C) (bytes_of t)
+    → sets (sets (sets (sets o 0 (bytes_of h)) (header_length form) (bytes_of s)) (header_length form + 8 * C) (bytes_of m)) (header_length form + 16 * C)
+    (bytes_of t)
     ≡ bytes_of (h ++ (s ++ (m ++ t)))
 four-parts form o h s m t C N eh es em et eo =
     let start = header_length form in
@@ -65,7 +66,8 @@ six (Some p) q rest e = rw e
 pub header_is : (form : ℕ) (c : MicroPriceConfig) (l : Previous) (k : Counters) (t : Tables) (n C : ℕ) (q : List ℕ) → n ≡ states c → C ≡ cells c
     → q ≡ previous_words l
     → n ∷ c.imbalance_buckets ∷ c.spread_states ∷ c.tick_size ∷ c.min_state_observations ∷ c.max_quote_gap_ms ∷ header_length form
-    ∷ (header_length form + 8 * C) ∷ (header_length form + 16 * C) ∷ get_or q 0 0 ∷ get_or q 1 0 ∷ get_or q 2 0 ∷ get_or q 3 0 ∷ get_or q 4 0 ∷ get_or q 5 0 ∷ k.pairs
+    ∷ (header_length form + 8 * C) ∷ (header_length form + 16 * C) ∷ get_or q 0 0 ∷ get_or q 1 0 ∷ get_or q 2 0 ∷ get_or q 3 0 ∷ get_or q 4 0 ∷ get_or q 5 0 ∷
+    k.pairs
     ∷ k.skipped_spread_pairs ∷ k.skipped_gap_pairs ∷ k.largest_move_half_ticks ∷ (header_length form + 16 * C + 8 * n) ∷ further form
     ≡ header form c l (counts_of k t)
 unfolding header

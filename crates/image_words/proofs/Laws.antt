@@ -47,7 +47,8 @@ put-bytes out at k w bs e f h =
     let n : at + length (digits 8 w) ≤ length out = omega (arith, length_digits 8 w) in
     let r : drop k (drop at out) ≡ drop (at + length (digits 8 w)) out =
     drop-drop k at out ∙ ap (λ (j : ℕ). drop j out) (let g : at + k ≡ at + length (digits 8 w) = omega (arith, length_digits 8 w) in g) in
-    let p : sets out at (digits 8 w) ≡ take at out ++ (digits 8 w ++ drop (at + length (digits 8 w)) out) = rw append_assoc at (sets-eq (digits 8 w) out at n) in
+    let p : sets out at (digits 8 w) ≡ take at out ++ (digits 8 w ++ drop (at + length (digits 8 w)) out) =
+    rw append_assoc at (sets-eq (digits 8 w) out at n) in
     (λ i. take at out ++ (d i ++ r i)) ∙ sym p
 
 -- a word of a table, and those that are left

@@ -42,7 +42,8 @@ module _ {A : Type 0} (number : ℕ → A) (bytes : List ℕ) (at n : ℕ) where
   length-numbers : length numbers ≡ n
   length-numbers = length-map (words_of n (drop at bytes)) number ∙ length-words n (drop at bytes)
 
-  pub read-to-next : (t : List A) (i : ℕ) {x : A} {w : ℕ} → ReadTo t i → i < n → length t ≡ n → w ≡ word_at bytes (at + 8 * i) → x ≡ number w → ReadTo (set t i x) (i + 1)
+  pub read-to-next : (t : List A) (i : ℕ) {x : A} {w : ℕ} → ReadTo t i → i < n → length t ≡ n → w ≡ word_at bytes (at + 8 * i) → x ≡ number w
+      → ReadTo (set t i x) (i + 1)
   read-to-next t i {x = x} p h l ew ex =
       let e : x ≡ get_or numbers i (number 0) =
       ex ∙ ap number (ew ∙ sym (words-from n i at bytes h)) ∙ sym (get_or-map number (words_of n (drop at bytes)) i 0) in

@@ -124,7 +124,8 @@ all-served c t serves q i e = go (signal_refusal c t q) refl e
     place : (p : Result At Reason) → Valid c → place_of c q ≡ p → signal_at c t q p ≡ Err (ModelRow i) → ⊥
     place (Ok a) v p k =
         let s = serves a.state (place-located c q v a p).below in
-        let f : ◌≡◌ {A = Result MicroPriceSignal Refusal} (Ok (sent q (adjustment_of (row_at t a.state)) (source_of (row_at t a.state).status))) (Err (ModelRow i)) =
+        let f : ◌≡◌ {A = Result MicroPriceSignal Refusal} (Ok (sent q (adjustment_of (row_at t a.state)) (source_of (row_at t a.state).status)))
+        (Err (ModelRow i)) =
         rw s at k in
         zero-not-one (cc f)
     place (Err r) v p k = zero-not-one cc

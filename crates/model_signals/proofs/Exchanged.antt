@@ -86,7 +86,8 @@ pub signal-exchanged : (c : MicroPriceConfig) (t : List ℕ) (q : TopOfBook)
     → AnswersMirror (signal_of c t q) (signal_of c t (exchanged q))
 signal-exchanged c t q h = rw (check-exchanged c q) (go (signal_refusal c t q) refl)
   where
-    at : (p : Result At Reason) → Valid c → place_of c q ≡ p → state_of c q ≡ p → AnswersMirror (signal_at c t q p) (signal_at c t (exchanged q) (mirror_place p))
+    at : (p : Result At Reason) → Valid c → place_of c q ≡ p → state_of c q ≡ p
+        → AnswersMirror (signal_at c t q p) (signal_at c t (exchanged q) (mirror_place p))
     at (Ok a) v p s =
         let m = h a s in
         let l = place-located c q v a p in

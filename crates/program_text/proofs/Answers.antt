@@ -78,7 +78,8 @@ module _ (b before : List ℕ) {l head : List ℕ} {r : Option ℕ} (line1 : Num
         ap (λ (x : List ℕ). get_or x k 0) line1.stored
         ∙ front (numbers_ended begin b) l k (omega (arith, long)) (omega arith)
 
-    reads : (x : Bool) → (whole_lines (length (numbers_ended begin b)) && few_states (get_or (numbers_ended begin b) 1 0) (get_or (numbers_ended begin b) 2 0)) ≡ x
+    reads : (x : Bool)
+        → (whole_lines (length (numbers_ended begin b)) && few_states (get_or (numbers_ended begin b) 1 0) (get_or (numbers_ended begin b) 2 0)) ≡ x
         → read_text b ≡ cond x (asked (request_of (numbers_ended begin b)) (drop 7 (numbers_ended begin b))) bad_input
     unfolding read_text
     reads x e =

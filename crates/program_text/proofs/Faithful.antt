@@ -280,7 +280,8 @@ text-read r ws a =
 pub read-text : (b : List ℕ) (r : Request) (ws : List ℕ) → read_text b ≡ asked r ws → (text_of r ws ≡ b) × Admissible r ws
 unfolding read_text
 read-text b r ws e =
-    go (fine begin b) refl (whole_lines (length (numbers_ended begin b)) && few_states (get_or (numbers_ended begin b) 1 0) (get_or (numbers_ended begin b) 2 0)) refl e
+    go (fine begin b) refl
+    (whole_lines (length (numbers_ended begin b)) && few_states (get_or (numbers_ended begin b) 1 0) (get_or (numbers_ended begin b) 2 0)) refl e
   where
     known : fine begin b ≡ true
         → (whole_lines (length (numbers_ended begin b)) && few_states (get_or (numbers_ended begin b) 1 0) (get_or (numbers_ended begin b) 2 0)) ≡ true

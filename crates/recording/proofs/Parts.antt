@@ -72,7 +72,8 @@ module _ (w : List ℕ) (start end : ℕ) where
   handed = part_of (part_ends (window_of w start end)).first (part_ends (window_of w start end)).past w
 
   -- as code has its part
-  pub handed-known : (found : Result Ends Refusal) (e : Ends) (part : List ℕ) → found ≡ window_of w start end → e ≡ part_ends found → part ≡ part_of e.first e.past w
+  pub handed-known : (found : Result Ends Refusal) (e : Ends) (part : List ℕ) → found ≡ window_of w start end → e ≡ part_ends found
+      → part ≡ part_of e.first e.past w
       → part ≡ handed
   handed-known found e part f h p = p ∙ ap (λ (x : Ends). part_of x.first x.past w) (h ∙ ap part_ends f)
 

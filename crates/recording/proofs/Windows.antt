@@ -165,7 +165,8 @@ ends-or (Err r) e is = λ i. record { first = is.0 i; past = is.1 i }
 
 module _ (w : List ℕ) (start end : ℕ) where
   -- the part lies in the recording
-  pub ends-lie : ((part_ends (window_of w start end)).first ≤ (part_ends (window_of w start end)).past) × ((part_ends (window_of w start end)).past ≤ length w / 5)
+  pub ends-lie : ((part_ends (window_of w start end)).first ≤ (part_ends (window_of w start end)).past) ×
+      ((part_ends (window_of w start end)).past ≤ length w / 5)
   ends-lie = go (check_window w start end)
     where
       go : (k : Check)

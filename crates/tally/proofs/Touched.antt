@@ -49,21 +49,25 @@ module _ (l : List ℤ) (d : ℤ) where
     totals-first h = go (ℕ_discrete a b)
       where
         p : not (within (get_or (add_at (add_at l a d) b (neg_ℤ d)) a (pos 0))) ≡ false
-        p = (neither (over_total (get_or (add_at (add_at l a d) b (neg_ℤ d)) a (pos 0))) (over_total (get_or (add_at (add_at l a d) b (neg_ℤ d)) b (pos 0))) fits).0
+        p = (neither (over_total (get_or (add_at (add_at l a d) b (neg_ℤ d)) a (pos 0))) (over_total (get_or (add_at (add_at l a d) b (neg_ℤ d)) b (pos 0)))
+            fits).0
 
         go : Dec (a ≡ b) → nat_abs (get_or l a (pos 0)) < 2 ^ 60
         go (yes q) =
             let s : not (totals_over l a a d) ≡ true = ap not (subst (λ (z : ℕ). totals_over l a z d ≡ false) (sym q) fits) in
             omega (arith, within-size (get_or l a (pos 0)) (totals-same a h ∙ s))
-        go (no q) = size (get_or (add_at (add_at l a d) b (neg_ℤ d)) a (pos 0)) (get_or l a (pos 0)) p (at_first (pos 0) (λ z. z +ℤ d) (λ z. z +ℤ neg_ℤ d) l a b h q)
+        go (no q) =
+            size (get_or (add_at (add_at l a d) b (neg_ℤ d)) a (pos 0)) (get_or l a (pos 0)) p (at_first (pos 0) (λ z. z +ℤ d) (λ z. z +ℤ neg_ℤ d) l a b h q)
 
     pub totals-second : b < length l → nat_abs (get_or (add_at l a d) b (pos 0)) < 2 ^ 60
     totals-second k =
         let z = get_or (add_at l a d) b (pos 0) in
-        let s : get_or (add_at (add_at l a d) b (neg_ℤ d)) b (pos 0) ≡ z +ℤ neg_ℤ d = get_or-set_same (add_at l a d) b (z +ℤ neg_ℤ d) (pos 0) (lt-length-set l a _ k) in
+        let s : get_or (add_at (add_at l a d) b (neg_ℤ d)) b (pos 0) ≡ z +ℤ neg_ℤ d =
+        get_or-set_same (add_at l a d) b (z +ℤ neg_ℤ d) (pos 0) (lt-length-set l a _ k) in
         let w = within-size (get_or (add_at (add_at l a d) b (neg_ℤ d)) b (pos 0))
         (not-false _
-        (neither (over_total (get_or (add_at (add_at l a d) b (neg_ℤ d)) a (pos 0))) (over_total (get_or (add_at (add_at l a d) b (neg_ℤ d)) b (pos 0))) fits).1) in
+        (neither (over_total (get_or (add_at (add_at l a d) b (neg_ℤ d)) a (pos 0))) (over_total (get_or (add_at (add_at l a d) b (neg_ℤ d)) b (pos 0)))
+        fits).1) in
         omega (arith, w, size-part z (neg_ℤ d), size-neg d, ap nat_abs s)
 
 pub zero-neg : (d : ℤ) → is_zero (neg_ℤ d) ≡ is_zero d

@@ -13,7 +13,8 @@ pub returns : goal.returns
 returns g c =
     let t = g.S.Counted.held c.args.self.now.source.now in
     let n = c.args.self.now.n * c.args.self.now.n in
-    let stay = fold_from_yields_List _ (added t.stay) 0 _ c.fold-stay.ensures.ran (YieldsList-from_range 0 n n refl (omega arith)) (λ a x b q k. search rules) in
+    let stay = fold_from_yields_List _ (added t.stay) 0 _ c.fold-stay.ensures.ran (YieldsList-from_range 0 n n refl (omega arith)) (λ a x b q k. search rules)
+    in
     let both = fold_from_yields_List _ (added t.moved) _ _ c.fold.ensures.ran (YieldsList-from_range 0 n n refl (omega arith)) (λ a x b q k. search rules) in
     let stay-sum = stay ∙ added-sum t.stay 0 n 0 (omega arith) (omega arith) in
     both ∙ added-sum t.moved 0 n _ (omega arith) (omega (arith, stay-sum)) ∙ omega (arith, stay-sum)

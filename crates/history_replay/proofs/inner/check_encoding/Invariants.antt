@@ -1,5 +1,5 @@
--- `history_replay::inner::check_encoding` meets its contract: six words for each answer, each six a call. Invariant: all calls are calls exactly if those from k
--- on are. A word that reads as no call ends it.
+-- `history_replay::inner::check_encoding` meets its contract: six words for each answer, each six a call. Invariant: all calls are calls exactly if those from
+-- k on are. A word that reads as no call ends it.
 use Rattle.std.proofs.Common.{◌≡◌, ◌-◌}
 use Rattle.basics.specs.Lists.{all_from}
 use Rattle.history_replay.specs.Replay.{is_call}

@@ -1,3 +1,5 @@
+-- `fit_series::inner::LentScratch::largest_term` meets its contract: the largest size of the floats of the term is that of the part of scratch where the term
+-- stands (`largest-part`). No loop.
 use Rattle.std.proofs.Common.{◌∙◌, arith}
 use Rattle.fit_series.proofs.Rounds.{largest-part}
 use Rattle.fit_series.proofs.inner.LentScratch.largest_term.Goals as goal

@@ -1,6 +1,6 @@
 -- `fit_series::inner::LentScratch::multiply_rows` meets its contract: for any list, where its product's first `first` numbers stand in next at entry, R more
--- a round do. Invariant: for any such list the first `first` + b R do (`ProductTo`); and of a round's R numbers the first q are written (`Filled`). The rows and
--- the vector lie before next, so they are as in that list, and the dot products of the next R rows are the next R numbers (`product-more`).
+-- a round do. Invariant: for any such list the first `first` + b R do (`ProductTo`); and of a round's R numbers the first q are written (`Filled`). The rows
+-- and the vector lie before next, so they are as in that list, and the dot products of the next R rows are the next R numbers (`product-more`).
 use Rattle.std.proofs.Common.{◌+◌, ◌*◌, List}
 use Rattle.std.specs.Prelude.{Float}
 use Rattle.fit_linear.specs.Inner.{float_at, Filled}

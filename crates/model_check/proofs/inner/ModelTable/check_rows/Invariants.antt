@@ -1,6 +1,6 @@
--- `model_check::inner::ModelTable::check_rows` meets its contract: the first bad row is refused. Invariant of the loop: the first refusal of all rows is that of the rows
--- from i on, and level is the spread level of i, which `check_row` asks and `level_after` keeps. Measure: n less i. A row that is refused is the answer
--- (`first-stop`), a fine one is passed (`first_step`), and at the end nothing is refused.
+-- `model_check::inner::ModelTable::check_rows` meets its contract: the first bad row is refused. Invariant of the loop: the first refusal of all rows is that
+-- of the rows from i on, and level is the spread level of i, which `check_row` asks and `level_after` keeps. Measure: n less i. A row that is refused is the
+-- answer (`first-stop`), a fine one is passed (`first_step`), and at the end nothing is refused.
 use Prim.Native.Nat.{◌-◌}
 use mathlib.Core.Path.{◌≡◌}
 use Rattle.refusals.specs.Refusals.{first_from}
