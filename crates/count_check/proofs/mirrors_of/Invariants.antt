@@ -1,8 +1,8 @@
--- `count_check::mirrors_of` meets its contract: each state below N gets its mirror. Loop over i; invariant: the array has 256 places, those below i hold the
--- mirrors, and level is the spread level of i, which `mirror_in` asks and `level_after` keeps. N is at most 256, so that each store is inside the array.
+-- `count_check::mirrors_of` meets its contract: each state below N gets its mirror. Loop over i; invariant: of the first N places those below i hold the mirrors,
+-- and level is the spread level of i, which `mirror_in` asks and `level_after` keeps.
 use Prim.Native.Nat.{ℕ, ◌<◌}
 use mathlib.Core.Path.{◌≡◌}
-use lib.ListN.{length, get_or}
+use lib.ListN.{get_or}
 use Rattle.quotes.specs.States.{mirror_of}
 use Rattle.quotes.specs.Inner.{HasLevel}
 use Rattle.count_check.proofs.mirrors_of.Given as goal
