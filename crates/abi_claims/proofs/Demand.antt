@@ -23,7 +23,7 @@ use Rattle.abi_encoding.specs.Encoding.{record_length, record_of, right_words, b
 use Rattle.history.specs.Calls.{new_past, run, OwnImages, ConfigWords}
 use Rattle.history.specs.Demand.{left}
 use Rattle.model_signals.specs.Signal.{signal_of}
-use Rattle.fit.specs.Fit.{fit_counts}
+use Rattle.fit.specs.Fit.{fitted_with}
 use Rattle.history_claims.specs.Models.{Model, Demand3Whole}
 use Rattle.history_claims.proofs.Claims.{demand-3-whole}
 use Rattle.abi_counting.specs.Counting.{of_outcome, new_words}
@@ -83,11 +83,13 @@ module _ (c w s m : List ℕ) (t : List ℤ) where
     abbrev after : WordMemory
     after = (ran_from_new c w s m t ks).left
 
-    fit_is : (model : List ℕ) (scratch : List Float) → fit_in_words c after model scratch ≡ of_fit (fit_counts d (left d (history_calls ks)) model scratch)
-    fit_is model scratch =
-        ap (λ (r : WordsRan). fit_in_words c r.left model scratch) ran
+    fit_is : (rounds moves : ℕ) (model : List ℕ) (scratch : List Float)
+        → fit_in_words rounds moves c after model scratch ≡ of_fit (fitted_with rounds moves d (left d (history_calls ks)) model scratch)
+    fit_is rounds moves model scratch =
+        ap (λ (r : WordsRan). fit_in_words rounds moves c r.left model scratch) ran
         ∙ (λ i. cond (words-encoded c made.config (left d (history_calls ks)) kinds i)
-        (of_fit (fit_counts d (memory-from-words c made.config (left d (history_calls ks)) kinds i) model scratch)) (lent_fit bad_encoding model scratch))
+        (of_fit (fitted_with rounds moves d (memory-from-words c made.config (left d (history_calls ks)) kinds i) model scratch))
+        (lent_fit bad_encoding model scratch))
       where
         kinds : HasKinds d (left d (history_calls ks))
         kinds = kinds-left d (history_calls ks) (fresh d) refl
@@ -99,11 +101,11 @@ module _ (c w s m : List ℕ) (t : List ℤ) where
           whole = whole;
           fit_is = fit_is;
           model =
-              λ model scratch zero_is.
-              let f = fit_counts d (left d (history_calls ks)) model scratch in
-              let is : fit_in_words c after model scratch ≡ of_fit f = fit_is model scratch in
+              λ rounds moves model scratch zero_is.
+              let f = fitted_with rounds moves d (left d (history_calls ks)) model scratch in
+              let is : fit_in_words rounds moves c after model scratch ≡ of_fit f = fit_is rounds moves model scratch in
               subst (λ (x : LentFit). Model d x.model) (sym is)
-              (whole.model model scratch (zero-fine f.answer (ap (λ (x : LentFit). x.answer) (sym is) ∙ zero_is)));
+              (whole.model rounds moves model scratch (zero-fine f.answer (ap (λ (x : LentFit). x.answer) (sym is) ∙ zero_is)));
           signal-is =
               λ model q out row long.
               λ i. cond (made.config i && eq-eqb (length out) signal_length long i) (of_signalled (signal_of d model q) out row)

@@ -57,7 +57,7 @@ right_words c w = is_config c && eqb (length w) record_length
 abbrev pub encoded : List ℕ → List ℕ → Bool
 encoded c w = is_config c && is_record w
 
--- the answer to other words: none of 01's numbers
+-- the answer to other words: none of the documents' numbers
 abbrev pub bad_encoding : ℕ
 bad_encoding = 100
 

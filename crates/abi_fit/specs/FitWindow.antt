@@ -8,9 +8,10 @@ use Rattle.abi_encoding.specs.Encoding.{record_of, encoded, bad_encoding}
 use Rattle.recording.specs.Window.{window_of}
 use Rattle.recording.specs.declared.Ends.{Ends}
 use Rattle.refusals.specs.declared.Refusal.{Refusal}
-use Rattle.fit.specs.Fit.{FitOutcome, fit_counts}
+use Rattle.fit_rounds.specs.Rounds.{default_series_rounds, default_fallback_rounds}
+use Rattle.fit.specs.Fit.{FitOutcome, fitted_with}
 
--- ---- the fit: document 01, "The fit"
+-- ---- the fit: document 01, "The fit", and document 02, Q-10
 
 -- an answer, the model table and scratch
 pub record LentFit : Type 0 where
@@ -24,10 +25,15 @@ lent_fit answer model scratch = record { answer = answer; model = model; scratch
 abbrev pub of_fit : FitOutcome → LentFit
 of_fit f = lent_fit (check_number f.answer) f.model f.scratch
 
-abbrev pub fit_words : List ℕ → List ℕ → List ℕ → List ℕ → List ℤ → List ℕ → List Float → LentFit
-fit_words c w s m t model scratch =
-    cond (encoded c w) (of_fit (fit_counts (config_of c) (memory (record_of w) s m t) model scratch))
+-- with at most so many rounds of the series, and so many of the share
+abbrev pub fit_with_words : ℕ → ℕ → List ℕ → List ℕ → List ℕ → List ℕ → List ℤ → List ℕ → List Float → LentFit
+fit_with_words rounds moves c w s m t model scratch =
+    cond (encoded c w) (of_fit (fitted_with rounds moves (config_of c) (memory (record_of w) s m t) model scratch))
     (lent_fit bad_encoding model scratch)
+
+-- at the defaults, as `fit_counts`
+abbrev pub fit_words : List ℕ → List ℕ → List ℕ → List ℕ → List ℤ → List ℕ → List Float → LentFit
+fit_words c w s m t model scratch = fit_with_words default_series_rounds default_fallback_rounds c w s m t model scratch
 
 -- ---- the window: document 01, "The window"
 

@@ -3,9 +3,38 @@
 #![tactic(auto)]
 
 ghost use Rattle.std.specs.Prelude.{◌≡◌};
-ghost use Rattle.abi_fit.specs.FitWindow.{lent_fit, fit_words, lent_ends, window_words};
+ghost use Rattle.abi_fit.specs.FitWindow.{lent_fit, fit_with_words, fit_words, lent_ends, window_words};
 
-// Fits the model: writes a row of seven words for each state.
+// Fits the model with at most so many rounds of the series, and so many of the share: writes a row of seven words for each state.
+#[unsafe(no_mangle)]
+pub extern "C" fn micro_price_fit_counts_with(
+    config: &[u64],
+    rec: &[u64],
+    stay: &[u64],
+    moved: &[u64],
+    move_half_ticks: &[i64],
+    series_rounds: u64,
+    fallback_rounds: u64,
+    scratch: &mut [f64],
+    model: &mut [u64],
+) -> u64
+    ensures { lent_fit result model.new scratch.new
+        ≡ fit_with_words series_rounds fallback_rounds config.now rec.now stay.now moved.now move_half_ticks.now model.old scratch.old }
+{
+    abi_fit::micro_price_fit_counts_with(
+        config,
+        rec,
+        stay,
+        moved,
+        move_half_ticks,
+        series_rounds,
+        fallback_rounds,
+        scratch,
+        model,
+    )
+}
+
+// Fits the model with the default rounds.
 #[unsafe(no_mangle)]
 pub extern "C" fn micro_price_fit_counts(
     config: &[u64],

@@ -62,7 +62,7 @@ judged-same n a b h =
     go s s' t t' e f = pick s t ∙ (λ j. fit_answer (cond (e j) (refused 19) (cond (f j) (fitted b) (refused 16))))
 
 -- rows that pass are the fit's
-judged-passed : (n : ℕ) (rows : ℕ → StateEstimate) → Ok tt ≡ fit_answer (judged_rows n rows) → judged_rows n rows ≡ fitted rows
+pub judged-passed : (n : ℕ) (rows : ℕ → StateEstimate) → Ok tt ≡ fit_answer (judged_rows n rows) → judged_rows n rows ≡ fitted rows
 unfolding judged_rows
 judged-passed n rows e = go (some_to n (λ i. not (representable (rows i)))) (some_to n (λ i. eqb (rows i).status 0)) e
   where

@@ -1,6 +1,7 @@
 -- Fits computed by their definition, each with its whole outcome (`ComputedFits`): the example that document 01 prints, 16, 17 and 19 of its "Run", and two
--- tables whose words are the Rust's (tests/comparison/fit_cases.txt). Before each fit the model table is all 9, and scratch all 1.
-use Prim.Native.Nat.{ℕ, ◌*◌, ◌+◌, ◌^◌}
+-- tables whose words are the Rust's (tests/comparison/fit_cases.txt). Before each fit the model table is all 9, and scratch all 1. Then what document 02, Q-10,
+-- judges of the rounds, and the share with none (`ComputedRounds`).
+use Prim.Native.Nat.{ℕ, ◌*◌, ◌+◌, ◌-◌, ◌^◌}
 use mathlib.Core.Path.{◌≡◌, refl}
 use mathlib.Core.Bool.{cond, ◌&&◌}
 use mathlib.Core.List.{List, [], ◌∷◌, ◌++◌}
@@ -18,6 +19,7 @@ use Rattle.quotes.proofs.Marked.{marked}
 use Rattle.tally.specs.Entries.{tables}
 use Rattle.tally.specs.Rules.{Memory}
 use Rattle.calibrator.specs.Record.{Previous}
+use Rattle.fit_rounds.specs.Rounds.{default_series_rounds, default_fallback_rounds, most_fallback_rounds}
 use Rattle.fit_marking.specs.Below.{sum_to, some_to}
 use Rattle.fit_marking.specs.Marks.{observations, reaches_in, mark_of}
 use Rattle.fit_linear.specs.Elimination.{system, pivot_row, swapped, cleared, reduced, column_solved, columns_solved}
@@ -79,8 +81,11 @@ unseen bucket spread = row bucket spread 0 0 0 0x3ff0_0000_0000_0000 1
 -- ---- document 01: the example that it prints
 
 -- quotes 0 100 101 9 1 and 1 100 102 5 5: from state 2 to 4 with change 1, and the mirror
+abbrev printed-cells : ℕ → Memory Previous
+printed-cells pairs = with_counts 6 pairs 1 [] (cell 0 4 1 ∷ cell 2 4 1 ∷ []) (neg_ℤ (pos 1) ∷ pos 0 ∷ pos 1 ∷ replicate 3 (pos 0))
+
 abbrev printed-counts : Memory Previous
-printed-counts = with_counts 6 1 1 [] (cell 0 4 1 ∷ cell 2 4 1 ∷ []) (neg_ℤ (pos 1) ∷ pos 0 ∷ pos 1 ∷ replicate 3 (pos 0))
+printed-counts = printed-cells 1
 
 abbrev pub printed-model : List ℕ
 printed-model =
@@ -156,7 +161,7 @@ pub record ComputedFits : Type 0 where
   pub eliminated : outcome_of three-buckets stay-counts ≡ succeeds 3 stay-model
   pub two-rounds : outcome_of (marked 1) two-moves ≡ succeeds 6 two-moves-model
   -- with one round it is 18
-  pub one-round : fitted_with 1 10 (marked 1) two-moves (nines 6) (ones 6) ≡ fails_with 6 18
+  pub one-round : fitted_with 1 default_fallback_rounds (marked 1) two-moves (nines 6) (ones 6) ≡ fails_with 6 18
 
 pub fits-computed : ComputedFits
 unfolding judged_rows fit_of solution_of adjusted estimate_of part dot largest summed share_after system pivot_row swapped cleared reduced column_solved columns_solved observations reaches_in mark_of sum_to some_to abs as_great max is_infinite clamp plus_zero half add sub mul div neg lt le eq is_nan round of_bits of_int to_bits
@@ -169,4 +174,74 @@ fits-computed =
       eliminated = refl;
       two-rounds = refl;
       one-round = refl;
+    }
+
+-- ---- document 02, Q-10: the rounds judged, and the share
+
+-- 01's example with so many rounds, of the series and of the share
+abbrev printed_with : ℕ → ℕ → FitOutcome
+printed_with rounds moves = fitted_with rounds moves (marked 1) printed-counts (nines 6) (ones 6)
+
+-- refused before the fit: nothing lent is changed
+abbrev refused_unchanged : ℕ → List Float → FitOutcome
+refused_unchanged k scratch = end_fit (refusal k) (nines 6) scratch
+
+-- scratch a float short, four buckets, pairs 2
+abbrev short-scratch : List Float
+short-scratch = replicate (6 * (2 * 6 + 10) - 1) one
+
+abbrev even-buckets : MicroPriceConfig
+even-buckets = with_max_quote_gap_ms (with_min_state_observations (new_config 1 4 2) 1) 1000
+
+abbrev unequal-pairs : Memory Previous
+unequal-pairs = printed-cells 2
+
+-- F of states 0 and 2 is 1/2: half of what is seen of them stays and leads to state 1, which is Rare, and half moves there
+abbrev half-counts : Memory Previous
+half-counts = with_counts 3 2 1 (cell 0 1 1 ∷ cell 2 1 1 ∷ []) (cell 0 1 1 ∷ cell 2 1 1 ∷ []) (neg_ℤ (pos 1) ∷ pos 0 ∷ pos 1 ∷ [])
+
+-- with the share of states 0 and 2
+abbrev half-model : ℕ → List ℕ
+half-model share =
+    row 1 1 2 0xbfd0_0000_0000_0000 0xbfd0_0000_0000_0000 share 0
+    ++ unseen 2 1
+    ++ row 3 1 2 0x3fd0_0000_0000_0000 0x3fd0_0000_0000_0000 share 0
+
+pub record ComputedRounds : Type 0 where
+  pub one-round-enough : printed_with 1 default_fallback_rounds ≡ succeeds 6 printed-model
+  pub most-fallback : printed_with default_series_rounds most_fallback_rounds ≡ succeeds 6 printed-model
+  -- with no round of the share it is F, with one F + B × F, here 1
+  pub no-fallback : fitted_with 1 0 three-buckets half-counts (nines 3) (ones 3) ≡ succeeds 3 (half-model 0x3fe0_0000_0000_0000)
+  pub one-fallback : fitted_with 1 1 three-buckets half-counts (nines 3) (ones 3) ≡ succeeds 3 (half-model 0x3ff0_0000_0000_0000)
+  -- 26
+  pub no-series : printed_with 0 default_fallback_rounds ≡ refused_unchanged 26 (ones 6)
+  pub series-over : printed_with 10001 default_fallback_rounds ≡ refused_unchanged 26 (ones 6)
+  pub series-low-word : printed_with (2 ^ 32 + 1) default_fallback_rounds ≡ refused_unchanged 26 (ones 6)
+  pub series-largest : printed_with (2 ^ 64 - 1) default_fallback_rounds ≡ refused_unchanged 26 (ones 6)
+  pub fallback-over : printed_with 1 101 ≡ refused_unchanged 26 (ones 6)
+  -- after 1, before 7 and 11
+  pub one-first : fitted_with 0 default_fallback_rounds even-buckets printed-counts (nines 6) (ones 6) ≡ refused_unchanged 1 (ones 6)
+  pub before-seven : fitted_with 0 default_fallback_rounds (marked 1) printed-counts (nines 6) short-scratch ≡ refused_unchanged 26 short-scratch
+  pub before-eleven : fitted_with 0 default_fallback_rounds (marked 1) unequal-pairs (nines 6) (ones 6) ≡ refused_unchanged 26 (ones 6)
+  pub then-seven : fitted_with 1 default_fallback_rounds (marked 1) printed-counts (nines 6) short-scratch ≡ refused_unchanged 7 short-scratch
+  pub then-eleven : fitted_with 1 default_fallback_rounds (marked 1) unequal-pairs (nines 6) (ones 6) ≡ refused_unchanged 11 (ones 6)
+
+pub rounds-computed : ComputedRounds
+unfolding judged_rows fit_of solution_of adjusted estimate_of part dot largest summed share_after system pivot_row swapped cleared reduced column_solved columns_solved observations reaches_in mark_of sum_to some_to abs as_great max is_infinite clamp plus_zero half add sub mul div neg lt le eq is_nan round of_bits of_int to_bits
+rounds-computed =
+    record {
+      one-round-enough = refl;
+      most-fallback = refl;
+      no-fallback = refl;
+      one-fallback = refl;
+      no-series = refl;
+      series-over = refl;
+      series-low-word = refl;
+      series-largest = refl;
+      fallback-over = refl;
+      one-first = refl;
+      before-seven = refl;
+      before-eleven = refl;
+      then-seven = refl;
+      then-eleven = refl;
     }

@@ -1,7 +1,7 @@
 -- What is known where nothing before 16 refuses.
 use Prim.Native.Nat.{ℕ, ◌+◌, ◌*◌, ◌≤◌, ◌<◌}
 use mathlib.Core.Path.{◌≡◌, refl, sym, ap, ◌∙◌}
-use mathlib.Core.Bool.{true, false, not, ◌||◌}
+use mathlib.Core.Bool.{Bool, true, false, not, ◌||◌}
 use mathlib.Core.List.{List}
 use native.Mathlib.Omega.{arith}
 use borrow.Author.Tests.{eqb-true, ltb-false, not-false, leb-true, le-leb, lt-ltb}
@@ -15,9 +15,9 @@ use Rattle.basics.proofs.Tests.{both, neither}
 use Rattle.basics.proofs.Anys.{none-at}
 use Rattle.basics.specs.Domain.{counter_limit, cell_limit}
 use Rattle.refusals.specs.Refusals.{refuse_if, first_of, first_from, Check}
-use Rattle.std.specs.Prelude.{Ok}
+use Rattle.std.specs.Prelude.{Ok, Err}
 use Rattle.refusals.proofs.Refusals.{if-fine, first_fine, from-fine}
-use Rattle.config.specs.Configuration.{states}
+use Rattle.config.specs.Configuration.{states, check_config}
 use Rattle.config.specs.Inner.{Valid}
 use Rattle.config.specs.declared.MicroPriceConfig.{MicroPriceConfig}
 use Rattle.quotes.specs.States.{mirror_of}
@@ -31,10 +31,11 @@ use Rattle.calibrator.specs.Record.{Previous}
 use Rattle.calibrator.proofs.Lengths.{tables-known, lengths-known}
 use Rattle.count_check.specs.Mirrors.{stored_over, total_mirrored, cells_alike, cell_mirrored, row_mirrored, check_state, is_twice, check_mirrored}
 use Rattle.count_check.proofs.Walks.{all-at}
+use Rattle.fit_rounds.specs.Rounds.{default_series_rounds, default_fallback_rounds, wrong_rounds}
 use Rattle.fit_marking.specs.Mirror.{CellsMirror}
 use Rattle.fit_system.specs.Inner.{Exact}
 use Rattle.fit_system.specs.Rows.{total_of}
-use Rattle.fit.specs.Fit.{fit_of, given_of, wrong_fit_lengths, fit_refusal, end_fit, fit_unless, fitted_with}
+use Rattle.fit.specs.Fit.{fit_of, given_of, wrong_fit_lengths, fit_refusal, fit_refusal_with, end_fit, fit_unless, fitted_with}
 use Rattle.fit.specs.Inner.{given_in, Usable, FitEnds}
 use Rattle.fit.proofs.Ends.{ends_same}
 
@@ -72,6 +73,33 @@ fit-known c m scratch model e =
       model-long = eqb-true model (7 * states c) (not-false _ w.1);
       mirrored = b.1;
     }
+
+-- ---- with rounds
+
+module _ (rounds moves : ℕ) (c : MicroPriceConfig) (m : Memory Previous) (scratch model : ℕ) where
+  -- rounds in their ranges: the refusals are those of `fit_refusal`
+  pub in-range-refusal : wrong_rounds rounds moves ≡ false → fit_refusal_with rounds moves c m scratch model ≡ fit_refusal c m scratch model
+  in-range-refusal e =
+      ap (λ (b : Bool). first_of (check_config c) (first_of (refuse_if b 26) (fit_refusal c m scratch model))) e ∙ go (check_config c) _ _
+    where
+      go : (k lengths rest : Check) → first_of k (first_of (first_of k lengths) rest) ≡ first_of (first_of k lengths) rest
+      go (Ok _) lengths rest = refl
+      go (Err r) lengths rest = refl
+
+  pub with-known : fit_refusal_with rounds moves c m scratch model ≡ Ok tt → (wrong_rounds rounds moves ≡ false) × (fit_refusal c m scratch model ≡ Ok tt)
+  with-known e =
+      let a = first_fine (refuse_if (wrong_rounds rounds moves) 26) (fit_refusal c m scratch model) (first_fine (check_config c) _ e).1 in
+      (if-fine (wrong_rounds rounds moves) 26 refl a.0, a.1)
+
+-- of what `check_fit` answers
+pub fit-known-with : (rounds moves : ℕ) (c : MicroPriceConfig) (m : Memory Previous) {scratch model : ℕ} {k : Check}
+    → k ≡ fit_refusal_with rounds moves c m scratch model → k ≡ Ok tt → Fittable c m scratch model
+fit-known-with rounds moves c m {scratch} {model} is fine = fit-known c m scratch model (with-known rounds moves c m scratch model (sym is ∙ fine)).1
+
+-- at the defaults
+pub default-refusal : (c : MicroPriceConfig) (m : Memory Previous) (scratch model : ℕ)
+    → fit_refusal_with default_series_rounds default_fallback_rounds c m scratch model ≡ fit_refusal c m scratch model
+default-refusal c m scratch model = in-range-refusal default_series_rounds default_fallback_rounds c m scratch model refl
 
 -- 6 and 11: the cells together are at most twice the limit of pairs, each total within its limit
 pub record Limited (k : Counts) : Type 0 where
@@ -156,7 +184,7 @@ usable-of {c} {m} f ms h e =
 
 pub whole : (rounds moves : ℕ) (c : MicroPriceConfig) (m : Memory Previous) (model after : List ℕ) (scratch left : List Float) (r : Check) (n : ℕ) (ms : List ℕ)
     → n ≡ states c
-    → fit_refusal c m (length scratch) (length model) ≡ Ok tt
+    → fit_refusal_with rounds moves c m (length scratch) (length model) ≡ Ok tt
     → ((i : ℕ) → i < states c → get_or ms i 0 ≡ mirror_of c.imbalance_buckets i)
     → FitEnds n
     (fit_of rounds moves

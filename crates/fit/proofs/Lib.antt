@@ -4,6 +4,7 @@ pub mod Known
 pub mod Opposites
 pub mod Models
 pub mod MoreRounds
+pub mod FallbackRounds
 pub mod NeverConverges
 pub mod ThirtyNineRounds
 pub mod Fitted

@@ -33,7 +33,6 @@ use Rattle.quotes.specs.States.{mirror_of, spread_in}
 use Rattle.quotes.proofs.States.{mirror-below, mirror-keeps-spread}
 use Rattle.quotes.proofs.Widths.{width-most}
 use Rattle.tally.specs.Rules.{Memory}
-use Rattle.calibrator.specs.Observe.{check_memory}
 use Rattle.calibrator.specs.Record.{Previous}
 use Rattle.model.specs.Rows.{row_words, row_at, plus_zeros}
 use Rattle.model.specs.declared.StateEstimate.{StateEstimate}
@@ -49,10 +48,10 @@ use Rattle.fit_system.specs.Rows.{used, system_of}
 use Rattle.fit_system.specs.Solution.{Solution, solution, unsolved, summed_up, solution_from, solution_of}
 use Rattle.fit_system.proofs.Binary64.{system-solved-fits}
 use Rattle.fit_estimates.specs.Estimates.{Given, estimate, representable}
-use Rattle.fit.specs.Fit.{Fit, fitted, refused, judged_rows, fit_from, fit_of, given_of, fit_refusal, table_of, fit_answer, fit_unless, fitted_with}
+use Rattle.fit.specs.Fit.{Fit, fitted, refused, judged_rows, fit_from, fit_of, given_of, fit_refusal_with, table_of, fit_answer, fit_unless, fitted_with}
 use Rattle.fit.specs.Models.{RowsOpposite, Inside, RowOf, Written}
 use Rattle.fit.proofs.Judging.{length-table, table_more, table-whole}
-use Rattle.fit.proofs.Known.{Fittable, fit-known, mirrored-of}
+use Rattle.fit.proofs.Known.{Fittable, fit-known-with, mirrored-of}
 use Rattle.fit.proofs.Opposites.{plus-plus, finite-of, held_of, row-known, row-share, row-fallback, row-outside, row_inside, rows-opposite}
 
 -- ---- the solution
@@ -210,17 +209,15 @@ module _ (rounds moves : ℕ) (c : MicroPriceConfig) (m : Memory Previous) (t₀
   table = (fitted_with rounds moves c m t₀ l).model
 
   module _ (fine : (fitted_with rounds moves c m t₀ l).answer ≡ Ok tt) where
-    parts : (fit_refusal c m (length l) (length t₀) ≡ Ok tt) × (fit_answer fit ≡ Ok tt)
-    parts = fine-parts (fit_refusal c m (length l) (length t₀)) (states c) fit t₀ l fine
+    parts : (fit_refusal_with rounds moves c m (length l) (length t₀) ≡ Ok tt) × (fit_answer fit ≡ Ok tt)
+    parts = fine-parts (fit_refusal_with rounds moves c m (length l) (length t₀)) (states c) fit t₀ l fine
 
     -- the configuration is valid
     pub fit-valid : valid c ≡ true
-    fit-valid =
-        let enough = (first_fine (check_memory c m) _ parts.0).0 in
-        valid-unrefused c (first_fine (check_config c) _ enough).0
+    fit-valid = valid-unrefused c (first_fine (check_config c) _ parts.0).0
 
     known : Fittable c m (length l) (length t₀)
-    known = fit-known c m (length l) (length t₀) parts.0
+    known = fit-known-with rounds moves c m refl parts.0
 
     found : Found G fit
     found = found_of G fit (fit-ended rounds moves G) parts.1
@@ -290,7 +287,7 @@ module _ (rounds moves : ℕ) (c : MicroPriceConfig) (m : Memory Previous) (t₀
         (subst (λ (x : Float). T (le x (half width))) (sym (ap (λ (x : StateEstimate). abs x.adjustment) e ∙ abs-plus (rows i).adjustment)) k)
 
   -- refused after the checks: 16 to 19
-  pub fit-numbers : (r : Refusal) → fit_refusal c m (length l) (length t₀) ≡ Ok tt → (fitted_with rounds moves c m t₀ l).answer ≡ Err r
+  pub fit-numbers : (r : Refusal) → fit_refusal_with rounds moves c m (length l) (length t₀) ≡ Ok tt → (fitted_with rounds moves c m t₀ l).answer ≡ Err r
       → (16 ≤ number_of r) × (number_of r ≤ 19)
   fit-numbers r k e = go fit (fit-ended rounds moves G) (ap (λ (x : Check). (fit_unless x (states c) fit t₀ l).answer) (sym k) ∙ e)
     where

@@ -1,4 +1,4 @@
--- 18 of document 01, "Run": quotes 0 100 101 9 1 and 1 101 102 9 1 make one move from state 2 to itself, and its mirror at state 0. Their fit is 18 with any
+-- 18 of document 01, "Run": quotes 0 100 101 9 1 and 1 101 102 9 1 make one move from state 2 to itself, and its mirror at state 0. Their fit is 18 with every
 -- number of rounds: the system is solved by computing, B gives G1 back, and `never-converges` does the rounds.
 use Prim.Native.Nat.{ℕ, ◌+◌}
 use mathlib.Core.Path.{◌≡◌, refl, sym, ap, ◌∙◌}
@@ -18,6 +18,7 @@ use Rattle.tally.specs.Entries.{tables}
 use Rattle.tally.specs.Events.{Counts}
 use Rattle.tally.specs.Rules.{Memory}
 use Rattle.calibrator.specs.Record.{Previous}
+use Rattle.fit_rounds.specs.Rounds.{default_series_rounds, default_fallback_rounds, wrong_rounds}
 use Rattle.fit_marking.specs.Below.{sum_to, some_to}
 use Rattle.fit_marking.specs.Marks.{observations, reaches_in, mark_of}
 use Rattle.fit_linear.specs.Arithmetic.{rounded}
@@ -29,7 +30,7 @@ use Rattle.fit_series.proofs.NeverConverges.{never-converges}
 use Rattle.fit_system.specs.Rows.{part, used, system_of}
 use Rattle.fit_system.specs.Solution.{unsolved, summed_up, solution_from, solution_of}
 use Rattle.fit_estimates.specs.Estimates.{Given}
-use Rattle.fit.specs.Fit.{refused, fit_from, fit_of, given_of, fit_refusal, fit_unless, end_fit, fitted_with, fit_counts}
+use Rattle.fit.specs.Fit.{refused, fit_from, fit_of, given_of, fit_refusal_with, fit_unless, end_fit, fitted_with, fit_counts}
 
 -- tick 1, n 3, s 2, least 1, gap 1000
 abbrev pub config18 : MicroPriceConfig
@@ -96,14 +97,14 @@ module _ (last : Previous) (model : List ℕ) (scratch : List Float) (enough : l
   abbrev m : Memory Previous
   m = record { last = last; counts = counts18 }
 
-  fine-18 : fit_refusal config18 m (length scratch) (length model) ≡ Ok tt
-  fine-18 = rw (enough, rows)
+  fine-18 : (rounds moves : ℕ) → wrong_rounds rounds moves ≡ false → fit_refusal_with rounds moves config18 m (length scratch) (length model) ≡ Ok tt
+  fine-18 rounds moves e = rw (e, enough, rows)
 
-  -- with any number of rounds, of the series and of the share: scratch is all plus zero, the model table as it was
-  pub refused-18 : (rounds moves : ℕ)
+  -- with every number of rounds, of the series and of the share: scratch is all plus zero, the model table as it was
+  pub refused-18 : (rounds moves : ℕ) → wrong_rounds rounds moves ≡ false
       → fitted_with rounds moves config18 m model scratch ≡ end_fit (refusal 18) model (replicate (length scratch) pos_zero)
-  refused-18 rounds moves = λ j. fit_unless (fine-18 j) 6 (fit-18 rounds moves j) model scratch
+  refused-18 rounds moves e = λ j. fit_unless (fine-18 rounds moves e j) 6 (fit-18 rounds moves j) model scratch
 
-  -- with document 01's 10,000 and 10
+  -- at the defaults
   pub fit-refused-18 : fit_counts config18 m model scratch ≡ end_fit (refusal 18) model (replicate (length scratch) pos_zero)
-  fit-refused-18 = refused-18 _ _
+  fit-refused-18 = refused-18 default_series_rounds default_fallback_rounds refl

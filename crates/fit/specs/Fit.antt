@@ -1,8 +1,8 @@
--- The fit: document 01, "The fit".
+-- The fit: document 01, "The fit", and document 02, Q-10.
 use Rattle.std.specs.Prelude.{ℕ, zero, suc, ◌+◌, ◌*◌, Bool, not, cond, ◌||◌, List, [], ◌++◌, eqb, length, replicate, Float, Ok, Err}
 use Rattle.floats.specs.Floats.{pos_zero}
 use Rattle.refusals.specs.Refusals.{refusal, refuse_if, first_of, Check}
-use Rattle.config.specs.Configuration.{states}
+use Rattle.config.specs.Configuration.{states, check_config}
 use Rattle.config.specs.declared.MicroPriceConfig.{MicroPriceConfig}
 use Rattle.quotes.specs.States.{mirror_of, bucket_in, spread_in}
 use Rattle.tally.specs.Events.{Counts}
@@ -12,6 +12,7 @@ use Rattle.calibrator.specs.Record.{Previous}
 use Rattle.count_check.specs.Mirrors.{check_mirrored}
 use Rattle.model.specs.Rows.{row_words}
 use Rattle.model.specs.declared.StateEstimate.{StateEstimate}
+use Rattle.fit_rounds.specs.Rounds.{default_series_rounds, default_fallback_rounds, wrong_rounds}
 use Rattle.fit_marking.specs.Below.{some_to}
 use Rattle.fit_marking.specs.Marks.{cells_of}
 use Rattle.fit_system.specs.Rows.{used, total_of}
@@ -67,6 +68,13 @@ fit_refusal c m scratch model =
     (first_of (refuse_if (wrong_fit_lengths (states c) scratch model) 7)
     (check_mirrored c m.counts))
 
+-- 1, 26, then as `fit_refusal`, whose own 1 is not reached
+abbrev pub fit_refusal_with : ℕ → ℕ → MicroPriceConfig → Memory Previous → ℕ → ℕ → Check
+fit_refusal_with rounds moves c m scratch model =
+    first_of (check_config c)
+    (first_of (refuse_if (wrong_rounds rounds moves) 26)
+    (fit_refusal c m scratch model))
+
 -- the rows of N states, one after another
 abbrev pub table_of : ℕ → (ℕ → StateEstimate) → List ℕ
 table_of zero rows = []
@@ -95,10 +103,11 @@ abbrev pub fit_unless : Check → ℕ → Fit → List ℕ → List Float → Fi
 fit_unless (Ok _) N f model scratch = end_fit (fit_answer f) (model_after N f model) (replicate (length scratch) pos_zero)
 fit_unless (Err r) N f model scratch = end_fit (Err r) model scratch
 
+-- with at most so many rounds of the series, and so many of the share
 abbrev pub fitted_with : ℕ → ℕ → MicroPriceConfig → Memory Previous → List ℕ → List Float → FitOutcome
 fitted_with rounds moves c m model scratch =
-    fit_unless (fit_refusal c m (length scratch) (length model)) (states c) (fit_of rounds moves (given_of c m.counts)) model scratch
+    fit_unless (fit_refusal_with rounds moves c m (length scratch) (length model)) (states c) (fit_of rounds moves (given_of c m.counts)) model scratch
 
--- 10,000 rounds of the series, 10 of the share
+-- at the default rounds
 abbrev pub fit_counts : MicroPriceConfig → Memory Previous → List ℕ → List Float → FitOutcome
-fit_counts c m model scratch = fitted_with 10000 10 c m model scratch
+fit_counts c m model scratch = fitted_with default_series_rounds default_fallback_rounds c m model scratch

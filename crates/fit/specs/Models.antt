@@ -1,15 +1,21 @@
--- What the laws of proofs/Models.antt say of a fitted model table: document 00, demand 3 (its last sentence), and document 01, "The fit".
-use Rattle.std.specs.Prelude.{ℕ, ◌+◌, ◌*◌, ◌<◌, ◌≤◌, ◌≡◌, false, List, ◌⊎◌, T, Float}
+-- What the laws of proofs/Models.antt and FallbackRounds.antt say of a fitted model table: document 00, demand 3 (its last sentence), document 01,
+-- "The fit", and document 02, Q-10.
+use Rattle.std.specs.Prelude.{ℕ, ◌+◌, ◌*◌, ◌<◌, ◌≤◌, ◌≡◌, ◌≢◌, false, cond, List, ◌⊎◌, T, Float}
 use Rattle.std.specs.Float.{binary64}
 use Rattle.std.specs.Float.Ieee.{add, neg, lt, le}
 use Rattle.std.specs.Float.Ieee.Exact.{HasValue}
 use Rattle.std.specs.Float.Ieee.Scale.{finite}
-use Rattle.floats.specs.Floats.{pos_zero, one, abs, plus_zero, half_spread}
+use Rattle.floats.specs.Floats.{pos_zero, one, abs, clamp, plus_zero, half_spread}
 use Rattle.config.specs.Configuration.{states}
 use Rattle.config.specs.declared.MicroPriceConfig.{MicroPriceConfig}
 use Rattle.quotes.specs.States.{bucket_in, spread_in}
-use Rattle.model.specs.Rows.{row_at, plus_zeros}
+use Rattle.model.specs.Rows.{row_word, row_at, plus_zeros}
 use Rattle.model.specs.declared.StateEstimate.{StateEstimate}
+use Rattle.fit_linear.specs.Arithmetic.{rounded}
+use Rattle.fit_linear.specs.Elimination.{matrix_of, gauss_jordan}
+use Rattle.fit_system.specs.Rows.{used, system_of}
+use Rattle.fit_system.specs.Solution.{column_f}
+use Rattle.fit_estimates.specs.Estimates.{Given}
 use Rattle.fit.specs.Fit.{Fit, fitted, table_of}
 
 -- the second is the first negated, zero as plus zero; their binary64 sum is plus zero
@@ -59,3 +65,15 @@ pub record Written (c : MicroPriceConfig) (f : Fit) (t : List ℕ) : Type 0 wher
   pub table_is : t ≡ table_of (states c) rows
   pub rows_are : (i : ℕ) → i < states c → row_at t i ≡ plus_zeros (rows i)
   pub row_of : (i : ℕ) → i < states c → RowOf c i (row_at t i)
+
+-- ---- rounds of the share
+
+-- the share with 0 fallback rounds: F, clamped, and 1 for a fallback state
+abbrev pub zero_moves_share : Given → ℕ → Float
+zero_moves_share G i =
+    let A : ℕ → ℕ → Float = matrix_of (gauss_jordan rounded G.cells.states (system_of G.cells G.total)) in
+    cond (used G.cells i) (clamp (column_f G.cells.states A i)) one
+
+-- all words but the shares, word 5 of each row, are equal
+abbrev pub SameButShares : MicroPriceConfig → List ℕ → List ℕ → Type 0
+SameButShares c t other = (i k : ℕ) → i < states c → k < 7 → k ≢ 5 → row_word t i k ≡ row_word other i k

@@ -10,7 +10,7 @@ ghost use Rattle.tally.specs.Lent.{tables_in};
 ghost use Rattle.calibrator.specs.Record.{memory_with};
 ghost use Rattle.fit_estimates.specs.Estimates.{solved_at};
 ghost use Rattle.fit.specs.Inner.{Usable, FitEnds, check_slices};
-ghost use Rattle.fit.specs.Fit.{judged_rows, fit_of, wrong_fit_lengths, fit_refusal, table_of, fit_answer, end_fit, fitted_with, fit_counts};
+ghost use Rattle.fit.specs.Fit.{judged_rows, fit_of, wrong_fit_lengths, fit_refusal_with, table_of, fit_answer, end_fit, fitted_with};
 
 use calibrator::Record;
 use config::MicroPriceConfig;
@@ -203,21 +203,26 @@ pub fn check_lengths(
     Ok(())
 }
 
-// Refusals 1 and 7, then 6, 9, 10 and 11.
+// Refusals 1 and 26, then 7, 6, 9, 10 and 11.
 fn check_fit(
     rec: Record,
     tables: TablesView<'_>,
     config: MicroPriceConfig,
+    rounds: Rounds,
     scratch: usize,
     model: usize,
 ) -> Result<(), Refusal>
-    ensures { result ≡ fit_refusal config (memory_with rec (tables_in tables.entry)) scratch model }
+    ensures { result ≡ fit_refusal_with rounds.series rounds.fallback config (memory_with rec (tables_in tables.entry)) scratch model }
 {
+    config.validate()?;
+    if rounds.are_wrong() {
+        return Err(Refusal::RoundsOutOfRange);
+    }
     check_lengths(config, tables, scratch, model)?;
     count_check::check_tables(config, rec.counters, &tables)
 }
 
-// The fit of a record by value, with at most so many rounds of the series, and so many of the share.
+// The work of `fit_counts_with` on a record by value; the operation is thin over it, as document 01 has it (docs/DECISIONS.md).
 pub fn fit_counts_with(
     rec: Record,
     tables: TablesView<'_>,
@@ -228,7 +233,7 @@ pub fn fit_counts_with(
 ) -> Result<(), Refusal>
     ensures { end_fit result model.new scratch.new ≡ fitted_with rounds.series rounds.fallback config (memory_with rec (tables_in tables.entry)) model.old scratch.old }
 {
-    check_fit(rec, tables, config, scratch.len(), model.len())?;
+    check_fit(rec, tables, config, rounds, scratch.len(), model.len())?;
     let mirrors = count_check::mirrors_of(config);
     let pairs = PairTables {
         states: config::inner::state_count(config),
@@ -249,21 +254,4 @@ pub fn fit_counts_with(
     let answer = input.fit_states(rounds, scratch, model);
     scratch.fill(0.0);
     answer
-}
-
-// The work of `fit_counts` on a record by value; the operation is thin over it, as document 01 has it (docs/DECISIONS.md).
-pub fn fit_counts(
-    rec: Record,
-    tables: TablesView<'_>,
-    config: MicroPriceConfig,
-    scratch: &mut [f64],
-    model: &mut [u64],
-) -> Result<(), Refusal>
-    ensures { end_fit result model.new scratch.new ≡ fit_counts config (memory_with rec (tables_in tables.entry)) model.old scratch.old }
-{
-    let rounds = Rounds {
-        series: Rounds::MAX_SERIES_TERMS,
-        fallback: Rounds::FALLBACK_HORIZON_MOVES,
-    };
-    fit_counts_with(rec, tables, config, rounds, scratch, model)
 }

@@ -2,15 +2,26 @@
 #![tactic(auto)]
 
 ghost use Rattle.std.specs.Prelude.{◌≡◌};
-ghost use Rattle.fit_rounds.specs.Rounds.{wrong_rounds};
+ghost use Rattle.fit_rounds.specs.Rounds.{default_series_rounds, default_fallback_rounds, wrong_rounds};
 
-// How many rounds a fit makes. Any words may stand in it; `are_wrong` judges them.
-#[derive(Clone, Copy)]
+// How many rounds a fit may make. Any words may stand in it; `are_wrong` judges them. `default` has the defaults below.
+#[derive(Clone, Copy, Debug, PartialEq, Eq)]
 pub struct Rounds {
     // Most rounds of the series.
     pub series: u64,
     // Rounds of the share, each a mid move.
     pub fallback: u64,
+}
+
+impl Default for Rounds {
+    ghost is_default = { λ rounds. (rounds.series ≡ default_series_rounds) × (rounds.fallback ≡ default_fallback_rounds) };
+
+    fn default() -> Rounds {
+        Rounds {
+            series: Rounds::MAX_SERIES_TERMS,
+            fallback: Rounds::FALLBACK_HORIZON_MOVES,
+        }
+    }
 }
 
 impl Rounds {

@@ -16,13 +16,17 @@ abbrev pub summed_up : (ℕ → Float) → (ℕ → Float) → Series Float → 
 summed_up G1 share (converged sum term) = solution G1 sum share
 summed_up G1 share (not_converged sum term) = unsolved 18
 
+-- the column F after solving
+abbrev pub column_f : ℕ → (ℕ → ℕ → Float) → ℕ → Float
+column_f N A i = A i (N + 1)
+
 -- 17: singular; else the columns after solving are G1, F and B
 abbrev pub solution_from : ℕ → ℕ → ℕ → Elimination Float → Solution
 solution_from N rounds moves (singular A) = unsolved 17
 solution_from N rounds moves (solved A) =
     let B : ℕ → ℕ → Float = λ i j. A i (N + 2 + j) in
-    summed_up (λ i. A i N) (fallback_within rounded N B (λ i. A i (N + 1)) moves) (sum_series rounded N B (λ i. A i N) rounds)
+    summed_up (λ i. A i N) (fallback_within rounded N B (column_f N A) moves) (sum_series rounded N B (λ i. A i N) rounds)
 
--- with at most so many rounds of the series (10,000 in document 01), and so many of the share (10)
+-- with at most so many rounds of the series, and so many of the share
 unfoldable pub solution_of : ℕ → ℕ → Cells → (ℕ → ℤ) → Solution
 solution_of rounds moves C total = solution_from C.states rounds moves (gauss_jordan rounded C.states (system_of C total))

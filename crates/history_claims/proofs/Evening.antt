@@ -33,7 +33,8 @@ use Rattle.recording.proofs.Histories.{Ended, new-answers, new-left, new-invalid
 use Rattle.image_layout.specs.Layout.{previous_words}
 use Rattle.history.specs.Calls.{quote, observes, run, History, gains, history_memory, history_refusal, Past, new_past, history_quote, history_act, history_run, OwnImages, ConfigWords}
 use Rattle.history.specs.Demand.{left, history_of}
-use Rattle.fit.specs.Fit.{wrong_fit_lengths, fit_refusal, fit_counts}
+use Rattle.fit_rounds.specs.Rounds.{default_series_rounds, default_fallback_rounds}
+use Rattle.fit.specs.Fit.{wrong_fit_lengths, fit_refusal_with, fit_counts}
 use Rattle.fit.proofs.Models.{fit-numbers}
 use Rattle.evening.specs.Evening.{end_evening, evening_refusal, counted_by, counted, evening_unless, calibrated}
 use Rattle.history_claims.specs.Models.{Demand3Whole}
@@ -246,8 +247,9 @@ module _ (c : MicroPriceConfig) (fits : ConfigWords c) (e : valid c ≡ true) wh
         let H : history_of c (calls_of qs) ≡ accepted_of c qs = history-is qs words fine in
         let M : R.left ≡ history_memory c (history_of c (calls_of qs)) = new-left c e qs ordered fine ∙ ap (history_memory c) (sym H) in
         let L : R.left ≡ left c (calls_of qs) = M ∙ sym D.history.memory in
-        let F : fit_refusal c R.left (length l) (length t) ≡ Ok tt =
-        ap (λ (x : Memory Previous). fit_refusal c x (length l) (length t)) L ∙ D.fit_refused (length l) (length t)
+        let F : fit_refusal_with default_series_rounds default_fallback_rounds c R.left (length l) (length t) ≡ Ok tt =
+        ap (λ (x : Memory Previous). fit_refusal_with default_series_rounds default_fallback_rounds c x (length l) (length t)) L
+        ∙ D.fit_refused default_series_rounds default_fallback_rounds (length l) (length t)
         ∙ ap (λ (b : Bool). refuse_if b 7) enough in
         record {
           history-is = H;
@@ -256,8 +258,8 @@ module _ (c : MicroPriceConfig) (fits : ConfigWords c) (e : valid c ≡ true) wh
           demand = D;
           invalid-are = new-invalid c e qs ordered fine;
           fit_is = ap (λ (x : Memory Previous). fit_counts c x t l) M;
-          fit-numbers = λ r a. fit-numbers 10000 10 c R.left t l r F a;
-          model = λ a. model-fitted c R.left t l a;
+          fit-numbers = λ r a. fit-numbers default_series_rounds default_fallback_rounds c R.left t l r F a;
+          model = λ a. model-fitted default_series_rounds default_fallback_rounds c R.left t l a;
         }
 
     module _ (m : Memory Previous) where

@@ -1,8 +1,9 @@
--- What a fitted model is, and demand 3 with its last sentence: document 00, demand 3, and document 01, "The history", "The fit" and "Model and signal".
-use Rattle.std.specs.Prelude.{ℕ, ◌<◌, ◌≤◌, ◌≡◌, true, List, ◌⊎◌, Float, Ok, Err}
+-- What a fitted model is, and demand 3 with its last sentence: document 00, demand 3, document 01, "The history", "The fit" and "Model and signal", and
+-- document 02, Q-10.
+use Rattle.std.specs.Prelude.{ℕ, ◌<◌, ◌≤◌, ◌≡◌, Bool, true, false, List, ◌⊎◌, Float, Ok, Err}
 use Rattle.std.specs.Float.Ieee.{eq}
 use Rattle.floats.specs.Floats.{pos_zero}
-use Rattle.refusals.specs.Refusals.{number_of, refuse_if}
+use Rattle.refusals.specs.Refusals.{number_of, refuse_if, first_of}
 use Rattle.refusals.specs.declared.Refusal.{Refusal}
 use Rattle.refusals.specs.declared.Refusal.TheVariants.{ModelRow}
 use Rattle.config.specs.Configuration.{states}
@@ -13,7 +14,8 @@ use Rattle.quotes.specs.declared.TopOfBook.{TopOfBook}
 use Rattle.history.specs.Calls.{Call}
 use Rattle.history.specs.Demand.{left, Demand3, Demand3New}
 use Rattle.model.specs.Rows.{row_at}
-use Rattle.fit.specs.Fit.{wrong_fit_lengths, fit_refusal, fit_counts}
+use Rattle.fit_rounds.specs.Rounds.{wrong_rounds}
+use Rattle.fit.specs.Fit.{wrong_fit_lengths, fit_refusal_with, fitted_with}
 use Rattle.fit.specs.Models.{RowsOpposite, Inside}
 use Rattle.model_check.specs.Check.{check_model}
 use Rattle.model_signals.specs.Claims.{Within, AnswersMirror}
@@ -33,16 +35,23 @@ pub record Model (c : MicroPriceConfig) (t : List ℕ) : Type 0 where
   pub checked : ((i : ℕ) → i < states c → ((row_at t i).status ≡ 1) ⊎ ((row_at t i).status ≡ 2) → eq (row_at t i).adjustment pos_zero ≡ true)
       → check_model c t ≡ Ok tt
 
--- demand 3 whole, of one configuration and one list of calls
+-- the number of a refused fit after a list: 26 exactly if its rounds are outside of their ranges, else 7, or one of 16 to 19
+abbrev pub FitNumber : Bool → ℕ → Type 0
+FitNumber true k = k ≡ 26
+FitNumber false k = (k ≡ 7) ⊎ ((16 ≤ k) × (k ≤ 19))
+
+-- demand 3 whole, of one configuration and one list of calls; what it says of fits is of every two numbers of rounds, of the series and of the share
 pub record Demand3Whole (c : MicroPriceConfig) (ks : List Call) : Type 0 where
   pub history : Demand3 c ks
   -- its start is new's zeros
   pub from-new : Demand3New c ks
-  -- before 16 a fit after the list is refused for the lengths of scratch and model table alone
-  pub fit_refused : (scratch model : ℕ) → fit_refusal c (left c ks) scratch model ≡ refuse_if (wrong_fit_lengths (states c) scratch model) 7
-  -- a refusal of a fit after the list is 7, or one of 16 to 19
-  pub fit-numbers : (t : List ℕ) (l : List Float) (r : Refusal) → (fit_counts c (left c ks) t l).answer ≡ Err r
-      → (number_of r ≡ 7) ⊎ ((16 ≤ number_of r) × (number_of r ≤ 19))
-  pub model : (t : List ℕ) (l : List Float) → (fit_counts c (left c ks) t l).answer ≡ Ok tt → Model c (fit_counts c (left c ks) t l).model
+  -- before 16 a fit after the list is refused for its rounds, then for the lengths of scratch and model table, and for nothing else
+  pub fit_refused : (rounds moves scratch model : ℕ)
+      → fit_refusal_with rounds moves c (left c ks) scratch model
+      ≡ first_of (refuse_if (wrong_rounds rounds moves) 26) (refuse_if (wrong_fit_lengths (states c) scratch model) 7)
+  pub fit-numbers : (rounds moves : ℕ) (t : List ℕ) (l : List Float) (r : Refusal) → (fitted_with rounds moves c (left c ks) t l).answer ≡ Err r
+      → FitNumber (wrong_rounds rounds moves) (number_of r)
+  pub model : (rounds moves : ℕ) (t : List ℕ) (l : List Float) → (fitted_with rounds moves c (left c ks) t l).answer ≡ Ok tt
+      → Model c (fitted_with rounds moves c (left c ks) t l).model
   -- of any quote and any table
   pub signal-inside : (t : List ℕ) (q : TopOfBook) (s : MicroPriceSignal) → signal_of c t q ≡ Ok s → Within q s.adjustment

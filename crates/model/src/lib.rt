@@ -65,7 +65,7 @@ pub struct StateEstimate {
     pub first_adjustment: f64,
     // G*, in price units.
     pub adjustment: f64,
-    // Share that is absorbed by a fallback state within 10 mid moves.
+    // Share that is absorbed by a fallback state within the fallback rounds, 10 by default, each a mid move.
     pub fallback_within_moves: f64,
     // The number of a `StateStatus`; any other word is kept as it is: the table is lent, and the model check judges what stands there.
     pub status: u64,

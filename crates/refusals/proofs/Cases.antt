@@ -10,11 +10,11 @@ use Rattle.refusals.specs.contracts.Refusal.{the_type}
 use Rattle.refusals.specs.Refusals.{number_of, refusal, row_or}
 use Rattle.std.specs.Prelude.{Err}
 use Rattle.refusals.specs.declared.Refusal.{Refusal}
-use Rattle.refusals.specs.declared.Refusal.TheVariants.{Configuration, OverDomain, BadQuote, OffTick, EarlierTime, CountLimit, SliceLength, LastQuoteBroken, TotalsUnmirrored, CellsUnmirrored, CellsNotTwicePairs, ImageLayout, ModelRow, RecordingUnsorted, WindowBackward, NoCalibratedState, SingularTransitions, NotConverged, Unrepresentable}
+use Rattle.refusals.specs.declared.Refusal.TheVariants.{Configuration, OverDomain, BadQuote, OffTick, EarlierTime, CountLimit, SliceLength, LastQuoteBroken, TotalsUnmirrored, CellsUnmirrored, CellsNotTwicePairs, ImageLayout, ModelRow, RecordingUnsorted, WindowBackward, NoCalibratedState, SingularTransitions, NotConverged, Unrepresentable, RoundsOutOfRange}
 
 -- the code's tags of the refusals, which count from 0, but for that of 13
 abbrev others : List ℕ
-others = 0 ∷ 1 ∷ 2 ∷ 3 ∷ 4 ∷ 5 ∷ 6 ∷ 7 ∷ 8 ∷ 9 ∷ 10 ∷ 11 ∷ 13 ∷ 14 ∷ 15 ∷ 16 ∷ 17 ∷ 18 ∷ []
+others = 0 ∷ 1 ∷ 2 ∷ 3 ∷ 4 ∷ 5 ∷ 6 ∷ 7 ∷ 8 ∷ 9 ∷ 10 ∷ 11 ∷ 13 ∷ 14 ∷ 15 ∷ 16 ∷ 17 ∷ 18 ∷ 19 ∷ []
 
 pub record Case (r : Refusal) : Type 0 where
   -- it is found by its number; of 13 the one at row 0 is
@@ -43,3 +43,4 @@ each-case NoCalibratedState = record { found = λ e. refl; not-zero = refl; kept
 each-case SingularTransitions = record { found = λ e. refl; not-zero = refl; kept = λ row h. refl }
 each-case NotConverged = record { found = λ e. refl; not-zero = refl; kept = λ row h. refl }
 each-case Unrepresentable = record { found = λ e. refl; not-zero = refl; kept = λ row h. refl }
+each-case RoundsOutOfRange = record { found = λ e. refl; not-zero = refl; kept = λ row h. refl }

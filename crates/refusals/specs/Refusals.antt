@@ -1,9 +1,9 @@
--- Document 01's refusals by number, and the first of several in its order.
+-- The refusals of documents 01 and 02 by number, and the first of several in their order.
 use Rattle.std.specs.Prelude.{ℕ, zero, suc, Bool, true, false, cond, List, [], ◌∷◌, eqb, Result, Ok, Err, ⊤}
 use Rattle.refusals.specs.declared.Refusal.{Refusal}
-use Rattle.refusals.specs.declared.Refusal.TheVariants.{Configuration, OverDomain, BadQuote, OffTick, EarlierTime, CountLimit, SliceLength, LastQuoteBroken, TotalsUnmirrored, CellsUnmirrored, CellsNotTwicePairs, ImageLayout, ModelRow, RecordingUnsorted, WindowBackward, NoCalibratedState, SingularTransitions, NotConverged, Unrepresentable}
+use Rattle.refusals.specs.declared.Refusal.TheVariants.{Configuration, OverDomain, BadQuote, OffTick, EarlierTime, CountLimit, SliceLength, LastQuoteBroken, TotalsUnmirrored, CellsUnmirrored, CellsNotTwicePairs, ImageLayout, ModelRow, RecordingUnsorted, WindowBackward, NoCalibratedState, SingularTransitions, NotConverged, Unrepresentable, RoundsOutOfRange}
 
--- the paper's number of each refusal
+-- the papers' number of each refusal: 1 to 19 are document 01's, 26 is of document 02, Q-10
 abbrev pub number_of : Refusal → ℕ
 number_of Configuration = 1
 number_of OverDomain = 2
@@ -24,6 +24,7 @@ number_of NoCalibratedState = 16
 number_of SingularTransitions = 17
 number_of NotConverged = 18
 number_of Unrepresentable = 19
+number_of RoundsOutOfRange = 26
 
 -- all refusals, 13 at row 0
 abbrev pub refusals : List Refusal
@@ -47,6 +48,7 @@ refusals =
     SingularTransitions ∷
     NotConverged ∷
     Unrepresentable ∷
+    RoundsOutOfRange ∷
     []
 
 -- what a check finds: nothing, or the first refusal
@@ -103,3 +105,4 @@ row_or NoCalibratedState row = row
 row_or SingularTransitions row = row
 row_or NotConverged row = row
 row_or Unrepresentable row = row
+row_or RoundsOutOfRange row = row

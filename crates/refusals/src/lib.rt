@@ -1,10 +1,10 @@
-// Document 01's refusals and their numbers. The functions are for the crates above, not for users.
+// The refusals of documents 01 and 02 and their numbers. The functions are for the crates above, not for users.
 #![tactic(auto)]
 
 ghost use Rattle.std.specs.Prelude.{◌≡◌};
 ghost use Rattle.refusals.specs.Refusals.{number_of, check_number, row_or};
 
-// Document 01's refusals; the number of each is `number_of` of specs/Refusals.antt.
+// Document 01's refusals, then those of document 02; the number of each is `number_of` of specs/Refusals.antt.
 #[derive(Clone, Copy, Debug, PartialEq, Eq)]
 pub enum Refusal {
     Configuration,
@@ -27,6 +27,8 @@ pub enum Refusal {
     SingularTransitions,
     NotConverged,
     Unrepresentable,
+    // Document 02, Q-10.
+    RoundsOutOfRange,
 }
 
 impl Refusal {
@@ -54,6 +56,7 @@ impl Refusal {
             Refusal::SingularTransitions => 17,
             Refusal::NotConverged => 18,
             Refusal::Unrepresentable => 19,
+            Refusal::RoundsOutOfRange => 26,
         }
     }
 

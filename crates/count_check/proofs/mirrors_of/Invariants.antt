@@ -1,5 +1,5 @@
--- `count_check::mirrors_of` meets its contract: each state below N gets its mirror. Loop over i; invariant: of the first N places those below i hold the mirrors,
--- and level is the spread level of i, which `mirror_in` asks and `level_after` keeps.
+-- `count_check::mirrors_of` meets its contract: each state below N gets its mirror. Loop over i; invariant: of the first N places those below i hold the
+-- mirrors, and level is the spread level of i, which `mirror_in` asks and `level_after` keeps.
 use Prim.Native.Nat.{ℕ, ◌<◌}
 use mathlib.Core.Path.{◌≡◌}
 use lib.ListN.{get_or}

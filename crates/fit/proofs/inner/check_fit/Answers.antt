@@ -1,5 +1,6 @@
--- `fit::inner::check_fit` meets its contract: the refusals in the order of `fit_refusal`, 1 and 7 of `check_lengths`, then 6, 9, 10 and 11. No loop. Where
--- `check_lengths` is fine, the configuration is valid and the tables have their lengths (`tables-known`), as `check_tables` asks.
+-- `fit::inner::check_fit` meets its contract: the refusals in the order of `fit_refusal_with`: 1 and 26, then 7 of `check_lengths`, whose 1 is not reached,
+-- then 6, 9, 10 and 11. No loop. Where `check_lengths` is fine, the configuration is valid and the tables have their lengths (`tables-known`), as
+-- `check_tables` asks.
 use mathlib.Core.Path.{sym, ◌∙◌}
 use Rattle.tally.specs.Lent.{tables_in}
 use Rattle.refusals.proofs.Refusals.{first_fine}
