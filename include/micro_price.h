@@ -9,26 +9,28 @@
  * Pointers. Each pointer is aligned and not null, that of an empty slice too. A slice's pointer has as many elements behind it
  * as its length says. Memory that a call writes is lent once in that call, and to no other call at the same time.
  *
- * Floats. micro_price_fit_counts, micro_price_calibrate, micro_price_check_model and micro_price_signal rest on binary64 rounded
- * to nearest, subnormals kept, floating-point exceptions masked, as a process starts with. A program linked with -ffast-math,
- * and one that changes the rounding or unmasks exceptions, calls these four inside the pair of micro_price_env.h: outside of it
- * they may answer something else, or trap. The other seven have no floating-point instruction.
+ * Floats. micro_price_fit_counts, micro_price_fit_counts_with, micro_price_calibrate, micro_price_check_model and
+ * micro_price_signal rest on binary64 rounded to nearest, subnormals kept, floating-point exceptions masked, as a process starts
+ * with. A program linked with -ffast-math, and one that changes the rounding or unmasks exceptions, calls these five inside the
+ * pair of micro_price_env.h: outside of it they may answer something else, or trap. The other seven have no floating-point
+ * instruction.
  *
  * Threads. The functions keep no state of their own. Calls that are lent different memory may run on different threads, and
  * memory that is only read, as a model, may be lent to many at once. This is not proved: the proofs are of one call at a time.
  *
  * Stack, in bytes, that calls with N = 255 were seen to take; tests/environment measures it on a painted stack:
- *   micro_price_validate      16
- *   micro_price_new           128
- *   micro_price_observe       240
- *   micro_price_save          2352
- *   micro_price_restore       2384
- *   micro_price_fit_counts    4688
- *   micro_price_check_model   104
- *   micro_price_signal        160
- *   micro_price_window_of     48
- *   micro_price_calibrate     13264
- *   micro_price_replay        7136
+ *   micro_price_validate          16
+ *   micro_price_new               128
+ *   micro_price_observe           240
+ *   micro_price_save              2352
+ *   micro_price_restore           2368
+ *   micro_price_fit_counts        4736
+ *   micro_price_fit_counts_with   4752
+ *   micro_price_check_model       104
+ *   micro_price_signal            152
+ *   micro_price_window_of         48
+ *   micro_price_calibrate         13264
+ *   micro_price_replay            7152
  *
  * Words:
  *   config   5: tick, imbalance buckets n, spread states s, least observations, largest gap in ms. N = n * s states.
@@ -38,7 +40,8 @@
  *   move_half_ticks   N signed totals
  *   scratch  N * (2 * N + 10) floats
  *   model    7 * N: for each state bucket + 1, spread, observations, bits of first adjustment, of adjustment and of the
- *            share, status
+ *            share, status. The share is how likely a Rare or NoPriceMove state is reached within the fallback rounds, 10 by
+ *            default, each a move of the mid.
  *   recording, calls  5 words a quote: time, bid, ask, bid size, ask size; 6 words a call
  * State (spread - 1) * n + bucket has its spread in ticks, from 1 to s, and its bucket from 0 to n - 1. Prices and sizes are
  * whole units; adjustments are in units too.
@@ -90,8 +93,9 @@ extern "C" {
 #define MICRO_PRICE_WINDOW_BACKWARD 15 /* end < start, and a time with end <= time < start */
 #define MICRO_PRICE_NO_CALIBRATED_STATE 16 /* no state is calibrated: none has counts to fit, or none is left inside the quotes */
 #define MICRO_PRICE_SINGULAR_TRANSITIONS 17 /* a pivot is below 1e-12 */
-#define MICRO_PRICE_NOT_CONVERGED 18 /* a term of the series is infinite, or the series has not ended after 10,000 rounds */
+#define MICRO_PRICE_NOT_CONVERGED 18 /* a term of the series is infinite, or the series has not ended within the series rounds */
 #define MICRO_PRICE_UNREPRESENTABLE 19 /* a fitted float is not finite, or of size 2^96 or more */
+#define MICRO_PRICE_ROUNDS_OUT_OF_RANGE 26 /* series rounds not 1 to 10,000, or fallback rounds over 100 */
 
 /* Answers beside refusals. */
 #define MICRO_PRICE_BAD_ENCODING 100 /* config, rec or a signal's out of another length; a rec that is read and is no record */
@@ -124,6 +128,13 @@ extern "C" {
 /* Defaults of a configuration's last two words, for a caller that has none of its own. An image carries its own. */
 #define MICRO_PRICE_MIN_STATE_OBSERVATIONS 100
 #define MICRO_PRICE_MAX_QUOTE_GAP_MS 5000
+
+/* Rounds of a fit: the defaults, which micro_price_fit_counts and micro_price_calibrate keep, and the limits, the most that
+ * micro_price_fit_counts_with takes. The least are 1 series round and 0 fallback rounds. */
+#define MICRO_PRICE_MAX_SERIES_TERMS 10000
+#define MICRO_PRICE_FALLBACK_HORIZON_MOVES 10
+#define MICRO_PRICE_SERIES_ROUNDS_LIMIT 10000
+#define MICRO_PRICE_FALLBACK_ROUNDS_LIMIT 100
 
 /* The status of a state, word 6 of its row. */
 #define MICRO_PRICE_STATUS_CALIBRATED 0
@@ -220,6 +231,23 @@ uint64_t micro_price_fit_counts(const uint64_t *config, size_t config_len, const
                                 const uint64_t *stay, size_t stay_len, const uint64_t *moved, size_t moved_len,
                                 const int64_t *move_half_ticks, size_t move_half_ticks_len, double *scratch,
                                 size_t scratch_len, uint64_t *model, size_t model_len);
+
+/* The same with at most series_rounds rounds of the series, 1 to 10,000, and with fallback_rounds rounds of the share, 0 to 100.
+ * A model that is reached with fewer series rounds is reached unchanged with more, the fallback rounds equal; where fewer answer
+ * 18, more may reach one. micro_price_fit_counts is this with the two defaults.
+ *
+ *   answer                               writes
+ *   100, 1, 26, 7, 6, 9, 10, 11          nothing
+ *   16 (none to fit), 17, 18, 19         scratch
+ *   16 (none inside the quotes)          scratch
+ *   0                                    scratch, model
+ */
+MICRO_PRICE_MUST_USE
+uint64_t micro_price_fit_counts_with(const uint64_t *config, size_t config_len, const uint64_t *rec, size_t rec_len,
+                                     const uint64_t *stay, size_t stay_len, const uint64_t *moved, size_t moved_len,
+                                     const int64_t *move_half_ticks, size_t move_half_ticks_len, uint64_t series_rounds,
+                                     uint64_t fallback_rounds, double *scratch, size_t scratch_len, uint64_t *model,
+                                     size_t model_len);
 
 /* Whether a model table is one of the configuration. At 13 *row is the first bad row: its bucket or spread is not its state's;
  * its status is over 3; a float is not finite or is minus zero; the share is not in 0 to 1; Calibrated with an adjustment over

@@ -1,9 +1,9 @@
-/* The floating-point environment that four functions of micro_price.h rest on, for callers in C (x86-64).
+/* The floating-point environment that five functions of micro_price.h rest on, for callers in C (x86-64).
  *
- * micro_price_fit_counts, micro_price_calibrate, micro_price_check_model and micro_price_signal rest on binary64 rounded to
- * nearest, subnormals kept, floating-point exceptions masked, as a process starts with. A caller needs this pair if the program,
- * or a shared library that it loads, is linked with -ffast-math or -Ofast, whose start-up code may set flush to zero, or if
- * anything in the process changes the rounding or unmasks exceptions. The other functions need nothing of it.
+ * micro_price_fit_counts, micro_price_fit_counts_with, micro_price_calibrate, micro_price_check_model and micro_price_signal rest
+ * on binary64 rounded to nearest, subnormals kept, floating-point exceptions masked, as a process starts with. A caller needs this
+ * pair if the program, or a shared library that it loads, is linked with -ffast-math or -Ofast, whose start-up code may set flush
+ * to zero, or if anything in the process changes the rounding or unmasks exceptions. The other functions need nothing of it.
  *
  *     uint32_t was = micro_price_env_set();
  *     uint64_t answer = micro_price_check_model(config, MICRO_PRICE_CONFIG_WORDS, model, model_len, &row);

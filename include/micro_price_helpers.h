@@ -31,6 +31,7 @@ static inline const char *micro_price_message(uint64_t answer) {
     case MICRO_PRICE_SINGULAR_TRANSITIONS: return "the transitions are singular";
     case MICRO_PRICE_NOT_CONVERGED: return "the series does not converge";
     case MICRO_PRICE_UNREPRESENTABLE: return "an adjustment is not representable";
+    case MICRO_PRICE_ROUNDS_OUT_OF_RANGE: return "the rounds of a fit are out of range";
     case MICRO_PRICE_BAD_ENCODING: return "the words are not encoded as micro_price.h says";
     case MICRO_PRICE_OTHER_CONFIGURATION: return "the image has another configuration";
     default: return "no function answers this number";

@@ -1,6 +1,7 @@
 use crate::config::{Config, Quote};
 use crate::model::Model;
 use crate::refusal::Refusal;
+use crate::rounds::Rounds;
 use crate::sys;
 use std::fmt;
 
@@ -166,14 +167,22 @@ impl Calibrator {
         Refusal::check(answer).map(|()| made)
     }
 
-    /// The model of its counts. Refusals: 16, 17, 18, 19.
+    /// The model of its counts, with the default rounds. Refusals: 16, 17, 18, 19.
     pub fn fit(&self) -> Result<Model, Refusal> {
+        self.fit_with(Rounds::default())
+    }
+
+    /// The model of its counts, with these rounds. Refusals: 26, then 16, 17, 18, 19.
+    ///
+    /// A model that is reached with fewer series rounds is reached unchanged with more, the fallback rounds equal; where fewer
+    /// answer 18, more may reach one.
+    pub fn fit_with(&self, rounds: Rounds) -> Result<Model, Refusal> {
         let states = self.move_half_ticks.len();
         let mut scratch = vec![0.0; sys::scratch_length(states)];
         let mut model = vec![0; sys::model_length(states)];
         // SAFETY: as in `new`.
         let answer = unsafe {
-            sys::micro_price_fit_counts(
+            sys::micro_price_fit_counts_with(
                 self.config.as_ptr(),
                 self.config.len(),
                 self.rec.as_ptr(),
@@ -184,6 +193,8 @@ impl Calibrator {
                 self.moved.len(),
                 self.move_half_ticks.as_ptr(),
                 self.move_half_ticks.len(),
+                rounds.series,
+                rounds.fallback,
                 scratch.as_mut_ptr(),
                 scratch.len(),
                 model.as_mut_ptr(),

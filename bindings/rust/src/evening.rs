@@ -34,7 +34,7 @@ pub struct Evening {
     pub fit: Result<Model, Refusal>,
 }
 
-/// Counts the quotes of a recording with start ≤ time < end from new, and fits the counts.
+/// Counts the quotes of a recording with start ≤ time < end from new, and fits the counts with the default rounds.
 /// Refusals before the fit: 7, 14, 15, 1, then 2 or 6 at a quote.
 pub fn calibrate(
     config: Config,

@@ -2,7 +2,7 @@
 //!
 //! A [`Calibrator`] counts quotes, a fit of its counts is a [`Model`], and the model answers a [`Signal`] for each quote: the
 //! mid plus an adjustment. Prices and sizes are whole numbers of at most 1,000,000,000. What is refused, and in which order,
-//! is document 01's; a [`Refusal`] has its numbers.
+//! is that of documents 01 and 02; a [`Refusal`] has their numbers.
 //!
 //! ```
 //! use micro_price::{Calibrator, Config, Quote, Source};
@@ -25,16 +25,17 @@
 //! The proofs are about the functions that are called. This crate lends them memory of its own, so no pointer or length is the
 //! caller's to get right; that it does is not proved.
 //!
-//! [`Calibrator::fit`], [`calibrate`], [`Model::check`] and [`Model::signal`] rest on binary64 rounded to nearest, subnormals
-//! kept, floating-point exceptions masked. Rust asks that of every program, and no Rust code changes it; a C or C++ part of the
-//! same process may, as one linked with `-ffast-math` does. `include/micro_price_env.h` has the C functions that set it and put
-//! it back. The other functions of the header have no floating-point instruction.
+//! [`Calibrator::fit`], [`Calibrator::fit_with`], [`calibrate`], [`Model::check`] and [`Model::signal`] rest on binary64 rounded
+//! to nearest, subnormals kept, floating-point exceptions masked. Rust asks that of every program, and no Rust code changes it;
+//! a C or C++ part of the same process may, as one linked with `-ffast-math` does. `include/micro_price_env.h` has the C
+//! functions that set it and put it back. The other functions of the header have no floating-point instruction.
 
 mod calibrator;
 mod config;
 mod evening;
 mod model;
 mod refusal;
+mod rounds;
 pub mod sys;
 
 pub use calibrator::{Calibrator, Call, Counters, OutsideRoom, Replayed};
@@ -42,3 +43,4 @@ pub use config::{Config, Quote};
 pub use evening::{Evening, calibrate, quotes_in};
 pub use model::{Estimate, Model, Signal, Source, Status};
 pub use refusal::Refusal;
+pub use rounds::Rounds;

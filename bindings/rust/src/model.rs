@@ -41,7 +41,7 @@ pub struct Estimate {
     pub first_adjustment: f64,
     /// The adjustment, in price units.
     pub adjustment: f64,
-    /// How likely a Rare or NoPriceMove state is reached within 10 moves of the mid.
+    /// How likely a Rare or NoPriceMove state is reached within the fallback rounds, 10 by default, each a move of the mid.
     pub fallback_within_moves: f64,
     /// `None` if the row's word is no status; a fitted row always has one.
     pub status: Option<Status>,

@@ -1,6 +1,6 @@
 use std::fmt;
 
-/// Why an operation was refused, in document 01's order and numbers.
+/// Why an operation was refused, in the order and numbers of documents 01 and 02.
 #[derive(Debug, Clone, Copy, PartialEq, Eq, Hash)]
 pub enum Refusal {
     /// 1: the configuration is not valid.
@@ -41,10 +41,12 @@ pub enum Refusal {
     NotConverged,
     /// 19: an adjustment is not finite, or of size 2^96 or more.
     Unrepresentable,
+    /// 26: the rounds of a fit are outside of their ranges.
+    RoundsOutOfRange,
 }
 
 impl Refusal {
-    /// Document 01's number.
+    /// The documents' number.
     pub fn number(self) -> u64 {
         match self {
             Self::Configuration => 1,
@@ -66,6 +68,7 @@ impl Refusal {
             Self::SingularTransitions => 17,
             Self::NotConverged => 18,
             Self::Unrepresentable => 19,
+            Self::RoundsOutOfRange => 26,
         }
     }
 
@@ -94,6 +97,7 @@ impl Refusal {
             17 => Self::SingularTransitions,
             18 => Self::NotConverged,
             19 => Self::Unrepresentable,
+            26 => Self::RoundsOutOfRange,
             other => panic!("an answer that the header does not have: {other}"),
         })
     }
@@ -126,6 +130,7 @@ impl fmt::Display for Refusal {
             Self::SingularTransitions => "the transitions are singular",
             Self::NotConverged => "the series does not converge",
             Self::Unrepresentable => "an adjustment is not representable",
+            Self::RoundsOutOfRange => "the rounds of a fit are out of range",
         };
         write!(f, "{text} ({})", self.number())
     }

@@ -136,6 +136,25 @@ unsafe extern "C" {
         model_len: usize,
     ) -> u64;
 
+    pub fn micro_price_fit_counts_with(
+        config: *const u64,
+        config_len: usize,
+        rec: *const u64,
+        rec_len: usize,
+        stay: *const u64,
+        stay_len: usize,
+        moved: *const u64,
+        moved_len: usize,
+        move_half_ticks: *const i64,
+        move_half_ticks_len: usize,
+        series_rounds: u64,
+        fallback_rounds: u64,
+        scratch: *mut f64,
+        scratch_len: usize,
+        model: *mut u64,
+        model_len: usize,
+    ) -> u64;
+
     pub fn micro_price_check_model(
         config: *const u64,
         config_len: usize,

@@ -7,7 +7,7 @@ use micro_price::sys::{
 };
 use micro_price::{
     Calibrator, Call, Config, Counters, Estimate, Model, OutsideRoom, Quote, Refusal, Replayed,
-    Signal, Source, Status, calibrate, quotes_in,
+    Rounds, Signal, Source, Status, calibrate, quotes_in,
 };
 
 const CONFIG: Config = Config::new(1, 3, 2)
@@ -456,6 +456,128 @@ fn fits_that_fail_say_why() {
     assert_eq!(unrepresentable.fit(), Err(Refusal::Unrepresentable));
 }
 
+/// Document 02, Q-10: the series of the example ends in its first round. With 0 fallback rounds the share is F, which is 0 for
+/// its calibrated states, as they move to a Rare one and never stay.
+#[test]
+fn the_example_is_fitted_in_one_round() {
+    let calibrator = after(CONFIG, &[[0, 100, 101, 9, 1], [1, 100, 102, 5, 5]]);
+    let words = |series, fallback| {
+        let model = calibrator.fit_with(Rounds { series, fallback }).unwrap();
+        assert_eq!(model.config(), CONFIG);
+        model.words().to_vec()
+    };
+    for series in [1, 2, 10_000] {
+        for fallback in [1, 10, 100] {
+            assert_eq!(words(series, fallback), example(), "{series} {fallback}");
+        }
+        let mut wanted = example();
+        (wanted[5], wanted[2 * ROW_WORDS + 5]) = (0, 0);
+        assert_eq!(words(series, 0), wanted, "{series} 0");
+    }
+}
+
+/// Document 02, Q-10: the defaults, and 26 outside of the ranges, judged before 16.
+#[test]
+fn rounds_have_defaults_and_are_judged() {
+    let (series, fallback) = (10_000, 10);
+    assert_eq!(Rounds::default(), Rounds { series, fallback });
+    let fitted = after(CONFIG, &[[0, 100, 101, 9, 1], [1, 100, 102, 5, 5]]);
+    let empty = Calibrator::new(CONFIG).unwrap();
+    let invalid = [
+        (0, 10),
+        (10_001, 10),
+        ((1 << 32) + 1, 10),
+        (u64::MAX, 10),
+        (1, 101),
+        (1, 1 << 32),
+        (1, u64::MAX),
+        (0, 101),
+    ];
+    for (series, fallback) in invalid {
+        let rounds = Rounds { series, fallback };
+        for calibrator in [&fitted, &empty] {
+            let refused = calibrator.fit_with(rounds);
+            assert_eq!(refused, Err(Refusal::RoundsOutOfRange), "{rounds:?}");
+        }
+    }
+    for (series, fallback) in [(1, 0), (1, 100), (10_000, 0), (10_000, 100)] {
+        let rounds = Rounds { series, fallback };
+        assert!(fitted.fit_with(rounds).is_ok(), "{rounds:?}");
+        let refused = empty.fit_with(rounds);
+        assert_eq!(refused, Err(Refusal::NoCalibratedState), "{rounds:?}");
+    }
+}
+
+/// n = 3, s = 1: half of the moves from states 0 and 2 end in the same state, half in state 1, which is Rare. No quotes of one
+/// tick's spread move the mid by half a tick, so the counts come from an image.
+fn halving() -> Calibrator {
+    let config = Config {
+        spread_states: 1,
+        ..CONFIG
+    };
+    let moved = table(3, &[(0, 0, 1), (0, 1, 1), (2, 1, 1), (2, 2, 1)]);
+    let rec = [0, 0, 0, 0, 0, 0, 2, 0, 0, 0];
+    Calibrator::restore(&image(config, rec, &[0; 9], &moved, &[-1, 0, 1])).unwrap()
+}
+
+/// Document 02, Q-10. G1 is -1/2 and 1/2 and a round halves the term, so that the 39th is 2^-40, the first below 1e-12. The sum
+/// is 1 - 2^-40 in size, the adjustment half of it.
+#[test]
+fn fewer_series_rounds_give_the_same_model_or_18() {
+    let calibrator = halving();
+    let fit = |series| {
+        calibrator.fit_with(Rounds {
+            series,
+            ..Rounds::default()
+        })
+    };
+    for series in [1, 38] {
+        assert_eq!(fit(series), Err(Refusal::NotConverged), "{series}");
+    }
+    let model = fit(39).unwrap();
+    let [low, middle, high] = [0, 1, 2].map(|state| model.estimate(state).unwrap());
+    assert_eq!(low.first_adjustment, -0.25);
+    assert_eq!(low.adjustment.to_bits(), 0xbfdf_ffff_ffff_e000);
+    assert_eq!(high.adjustment, -low.adjustment);
+    assert_eq!(low.status, Some(Status::Calibrated));
+    assert_eq!(middle.status, Some(Status::Rare));
+    for series in [40, 10_000] {
+        assert_eq!(fit(series).as_ref(), Ok(&model), "{series}");
+    }
+    assert_eq!(calibrator.fit(), Ok(model));
+}
+
+/// Document 02, Q-10. F is 0 for states 0 and 2, and a round takes them half of the way to 1: after k rounds the share is
+/// 1 - 2^-k, which is 1 from the 54th on, rounded. Nothing else depends on these rounds.
+#[test]
+fn fallback_rounds_change_the_share_alone() {
+    let calibrator = halving();
+    let by_default = calibrator.fit().unwrap();
+    let shares = [
+        (0, 0.0),
+        (1, 0.5),
+        (2, 0.75),
+        (10, 0.9990234375),
+        (53, 1.0 - f64::EPSILON / 2.0),
+        (54, 1.0),
+        (100, 1.0),
+    ];
+    for (fallback, share) in shares {
+        let rounds = Rounds {
+            fallback,
+            ..Rounds::default()
+        };
+        let mut wanted = by_default.words().to_vec();
+        for state in [0, 2] {
+            wanted[ROW_WORDS * state + 5] = f64::to_bits(share);
+        }
+        let model = calibrator.fit_with(rounds).unwrap();
+        assert_eq!(model.words(), wanted, "{fallback}");
+    }
+    let share = by_default.estimate(0).unwrap().fallback_within_moves;
+    assert_eq!(share.to_bits(), 0x3fef_f800_0000_0000);
+}
+
 #[test]
 fn signals_are_the_mid_plus_the_adjustment() {
     let model = Model::from_words(CONFIG, example());
@@ -681,7 +803,7 @@ fn a_journal_is_replayed() {
 }
 
 #[test]
-fn refusals_have_the_numbers_of_document_01() {
+fn refusals_have_the_numbers_of_the_documents() {
     let all = [
         Refusal::Configuration,
         Refusal::OverDomain,
@@ -702,8 +824,9 @@ fn refusals_have_the_numbers_of_document_01() {
         Refusal::SingularTransitions,
         Refusal::NotConverged,
         Refusal::Unrepresentable,
+        Refusal::RoundsOutOfRange,
     ];
     let numbers: Vec<u64> = all.iter().map(|refusal| refusal.number()).collect();
-    assert_eq!(numbers, (1..=19).collect::<Vec<u64>>());
+    assert_eq!(numbers, (1..=19).chain([26]).collect::<Vec<u64>>());
     assert_eq!(Refusal::OffTick.to_string(), "a price is off the tick (4)");
 }
