@@ -3,8 +3,8 @@
 The unit of the walk is a section of a member. The compiler puts each function into a section of its own, and whatever a
 section calls, jumps to or takes the address of outside of itself stands in its relocations, as does each address in a table
 of constants. So all is followed that any relocation of a reached section names. A jump through a register or memory cannot be
-followed: tests/environment refuses it. Each part of the archive has its own copy of the inner functions, so a local name is
-looked up in its own member.
+followed, but for one to an entry of such a table: tests/environment refuses any other. Each part of the archive has its own
+copy of the inner functions, so a local name is looked up in its own member.
 """
 import os
 import re

@@ -37,17 +37,30 @@ refused "set, which sets nothing" $env '    micro_price_env_restore(MICRO_PRICE_
 refused "set, which answers what it has set" $env 'return was;' 'return MICRO_PRICE_ENV_WORD;'
 refused "restore, which puts nothing back" $env '("ldmxcsr %0" : : "m"(was) : "memory")' '("" : : "m"(was) : "memory")'
 refused "no word of other machines" $env '#error "micro_price_env.h sets the control word of x86-64"' ''
-refused "less stack than is used" $header 'micro_price_calibrate     13264' 'micro_price_calibrate     13256'
-refused "more than twice the stack" $header 'micro_price_observe       240' 'micro_price_observe       490'
-refused "a function without its stack" $header ' *   micro_price_new           128
+refused "less stack than is used" $header 'micro_price_calibrate         13264' 'micro_price_calibrate         13256'
+refused "more than twice the stack" $header 'micro_price_observe           240' 'micro_price_observe           490'
+refused "a function without its stack" $header ' *   micro_price_new               128
 ' ''
+refused "a fit with rounds that takes no more stack than one without" $header 'micro_price_fit_counts_with   4752' \
+    'micro_price_fit_counts_with   4736'
 
 refused_names "a float instruction in observe" micro_price_observe micro_price_calibrate
 refused_names "no float instruction in signal" micro_price_signal micro_price_window_of
+refused_names "no float instruction in fit_counts_with" micro_price_fit_counts_with micro_price_validate
 refused_code "an x87 instruction" 'long double more(long double x) { return x + 1; }'
 refused_code "a fused multiply-add" 'double more(double x) { return __builtin_fma(x, x, x); }'
 refused_code "an instruction that sets the control word" 'void more(unsigned w) { __builtin_ia32_ldmxcsr(w); }'
 refused_code "a call through a pointer" 'int more(int (*f)(void)) { return f() + 1; }'
+refused_code "a jump to a place that the caller lends" '__asm__(".section .text.more, \"ax\"\nmore: jmp *(%rdi)");'
+refused_code "a jump by a table that the caller lends" \
+    '__asm__(".section .text.more, \"ax\"\nmore: movslq (%rdi,%rsi,4),%rax\nadd %rdi,%rax\njmp *%rax");'
+by_table='__asm__(".section .rodata\ntable: .long 0");
+__asm__(".section .text.more, \"ax\"\nmore: lea table(%rip),%rcx\nmovslq (%rcx,%rsi,4),%rax'
+refused_code "a jump to an entry of a table without the table's address" "$by_table\\njmp *%rax\");"
+refused_code "a jump by a table to a place that the caller lends" "$by_table\\nadd %rcx,%rax\\nmov %rdi,%rax\\njmp *%rax\");"
+refused_code "a jump by a table after a string instruction" \
+    '__asm__(".section .rodata\ntable: .long 0");
+__asm__(".section .text.more, \"ax\"\nmore: lea table(%rip),%rcx\nmovslq (%rcx,%rax,4),%rsi\nadd %rcx,%rsi\nmovsq\njmp *%rsi");'
 refused_code "data that is kept between calls" 'int more(void) { static int calls; return ++calls; }'
 refused_code "a call of another library" 'int rand(void);
 int more(void) { return rand() + 1; }'

@@ -17,10 +17,16 @@ import sys
 sys.path.insert(0, os.path.join(os.path.dirname(os.path.abspath(__file__)), "../common"))
 from archive import instructions_of, mnemonic, reached, read
 
-FLOAT = {"micro_price_fit_counts", "micro_price_calibrate", "micro_price_check_model", "micro_price_signal"}
+FLOAT = {"micro_price_fit_counts", "micro_price_fit_counts_with", "micro_price_calibrate", "micro_price_check_model",
+         "micro_price_signal"}
 PLAIN = {"micro_price_validate", "micro_price_new", "micro_price_observe", "micro_price_save", "micro_price_restore",
          "micro_price_window_of", "micro_price_replay"}
 OUTSIDE = {"memcpy", "memmove", "memset", "memcmp", "bcmp"}
+
+# What the compiler makes of a match: the address of a table of constants, an entry of it, and their sum in the register {0}. Moves
+# of other registers may stand before the jump. The string instructions movsb to movsq are no such moves.
+BY_TABLE = r"lea 0x0\(%rip\),(%r\w+)\nmovslq \(\1,%r\w+,4\),{0}\nadd \1,{0}"
+MOVE = r"mov(|[bwlq]|abs|[sz][bw][wlq]|slq)"
 
 # Instructions on vector registers whose result is the same under every control word and that raise nothing (SSE and SSE2).
 # Any other instruction on such a register counts as a float instruction.
@@ -59,6 +65,29 @@ def is_indirect(instruction):
     return re.match(r"l?(call|jmp)", mnemonic(instruction)) is not None and "*" in instruction
 
 
+def sets(instruction, register):
+    """Whether an instruction's last operand is a register or a part of it."""
+    core = register[2:]
+    return re.fullmatch(rf"%[re]?{core}[dwbl]?|%{core[0]}[lh]", instruction.rsplit(",", 1)[-1]) is not None
+
+
+def goes_by_table(before, jump):
+    """Whether a jump goes to an entry of a table of constants. The entries stand in relocations, so all are followed."""
+    target = re.fullmatch(r"jmp \*(%r\w+)", jump)
+    if not target:
+        return False
+    end = len(before)
+    while end and re.fullmatch(MOVE, mnemonic(before[end - 1])) and not sets(before[end - 1], target[1]):
+        end -= 1
+    return re.fullmatch(BY_TABLE.format(target[1]), "\n".join(before[max(end - 3, 0):end])) is not None
+
+
+def jumps_not_followed(instructions):
+    for place, text in enumerate(instructions):
+        if is_indirect(text) and not goes_by_table(instructions[:place], text):
+            yield text
+
+
 def function_faults(members, function):
     code = instructions_of(reached(members, function))
     floats = [(member, section, text) for member, section, text in code if is_float(text)]
@@ -78,8 +107,10 @@ def instruction_faults(members):
         section = member.sections[name]
         if "CODE" in section.flags and section.size and not section.instructions:
             yield f"code that was not read: {name} of {member.name}"
+        for text in jumps_not_followed(section.instructions):
+            yield f"a jump or call that cannot be followed: {text} ({member.name}, {name})"
     tests = ((is_x87, "an x87 instruction"), (has_control_word, "an instruction that reads or sets a control word"),
-             (is_fused, "a fused multiply-add"), (is_indirect, "a jump or call that cannot be followed"),
+             (is_fused, "a fused multiply-add"),
              (lambda text: "(bad)" in text, "an instruction that objdump does not know"))
     for member, section, text in instructions_of(everything):
         for test, what in tests:

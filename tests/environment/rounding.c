@@ -1,4 +1,4 @@
-/* With rounding up a fit's mirrored adjustments do not sum to zero, and with an exception unmasked each of the four functions
+/* With rounding up a fit's mirrored adjustments do not sum to zero, and with an exception unmasked each of the five functions
  * traps; inside the pair of micro_price_env.h they answer as is proved. The exit status is 0 if all holds. */
 #define _GNU_SOURCE
 #include "example.h"
@@ -30,6 +30,12 @@ static uint64_t row;
 
 static uint64_t fits(void) {
     return fit(&counted, model);
+}
+
+/* Without rounds of the share. */
+static uint64_t fits_with_rounds(void) {
+    return micro_price_fit_counts_with(SLICE(example_config), SLICE(counted.rec), SLICE(counted.stay), SLICE(counted.moved),
+                                       SLICE(counted.totals), 1, 0, SLICE(example_scratch), SLICE(model));
 }
 
 static uint64_t calibrates(void) {
@@ -106,8 +112,10 @@ int main(void) {
     expect(count_quotes(&counted, quotes, QUOTES) == 0 && counted.rec[6] == 3 && counted.rec[8] == 2, "observe",
            "three pairs are counted and two gaps skipped");
     rounds_up(fits, "fit_counts");
+    rounds_up(fits_with_rounds, "fit_counts_with");
     rounds_up(calibrates, "calibrate");
     traps(fits, 0, _MM_MASK_INEXACT, "fit_counts, inexact");
+    traps(fits_with_rounds, 0, _MM_MASK_INEXACT, "fit_counts_with, inexact");
     traps(calibrates, 0, _MM_MASK_INEXACT, "calibrate, inexact");
     /* -1/2 + 2^-60 is inexact. */
     adjusted(model, 0, SIGN | HALF, 2, (uint64_t)(1023 - 60) << 52);

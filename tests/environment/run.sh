@@ -21,7 +21,7 @@ echo "environment: with -ffast-math the check and the fit differ, and inside the
 
 build rounding rounding.c -O2
 "$work/rounding" || stop "rounding.c fails"
-echo "environment: rounding up a fit differs, with exceptions unmasked the four functions trap; inside the pair they are as proved"
+echo "environment: rounding up a fit differs, with exceptions unmasked the five functions trap; inside the pair they are as proved"
 
 python3 instructions.py "$archive"
 

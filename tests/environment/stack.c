@@ -64,6 +64,12 @@ static void fits(void) {
                                     SLICE(model));
 }
 
+static void fits_with_rounds(void) {
+    answer = micro_price_fit_counts_with(SLICE(config), SLICE(rec), SLICE(stay), SLICE(moved), SLICE(totals),
+                                         MICRO_PRICE_SERIES_ROUNDS_LIMIT, MICRO_PRICE_FALLBACK_ROUNDS_LIMIT, SLICE(scratch),
+                                         SLICE(model));
+}
+
 static void checks(void) {
     answer = micro_price_check_model(SLICE(config), SLICE(model), &row);
 }
@@ -86,7 +92,7 @@ static void replays(void) {
                                 SLICE(answers));
 }
 
-/* In this order each call finds what it needs from those before it: the quotes are observed from new, the fit is of their counts,
+/* In this order each call finds what it needs from those before it: the quotes are observed from new, the fits are of their counts,
  * and the replay of the same quotes starts from a second new. `times` is how often it is called, with quote after quote. */
 static const struct step {
     const char *name;
@@ -96,9 +102,10 @@ static const struct step {
     {"micro_price_validate", validates, 1}, {"micro_price_new", starts, 1},
     {"micro_price_observe", observes, QUOTES}, {"micro_price_save", saves, 1},
     {"micro_price_restore", restores, 1}, {"micro_price_fit_counts", fits, 1},
-    {"micro_price_check_model", checks, 1}, {"micro_price_signal", signals, QUOTES},
-    {"micro_price_window_of", finds_windows, 1}, {"micro_price_calibrate", calibrates, 1},
-    {"micro_price_new", starts, 1}, {"micro_price_replay", replays, 1},
+    {"micro_price_fit_counts_with", fits_with_rounds, 1}, {"micro_price_check_model", checks, 1},
+    {"micro_price_signal", signals, QUOTES}, {"micro_price_window_of", finds_windows, 1},
+    {"micro_price_calibrate", calibrates, 1}, {"micro_price_new", starts, 1},
+    {"micro_price_replay", replays, 1},
 };
 
 #define STEPS (sizeof steps / sizeof steps[0])

@@ -29,6 +29,9 @@ refused "a line less in the snippet" README.md 'int64_t move_half_ticks[STATES];
 ' ''
 refused "no snippet" README.md '<!-- from examples/c/day.c -->' ''
 refused "another text of a refusal" $helpers 'the series does not converge' 'the series diverges'
+refused "a refusal of document 02 without its text" $helpers \
+    '    case MICRO_PRICE_ROUNDS_OUT_OF_RANGE: return "the rounds of a fit are out of range";
+' ''
 refused "a text for a number that is no answer" $helpers 'case 0:' 'case 99: return "no text";
     case 0:'
 refused "words with the greatest byte first" $helpers 'image[8 * word + byte - 1]' 'image[8 * word + 8 - byte]'

@@ -1,14 +1,15 @@
 #!/usr/bin/env python3
 """texts.py REFUSAL_RS
 
-Reads lines of a number and its text, as helpers.c prints them, and holds 1 to 19 against REFUSAL_RS, which has the texts of
-bindings/rust. 0, 100 and 101 must have texts of their own, and all other numbers one text that no answer has. Prints each mismatch
-and ends with status 1 if there is one.
+Reads lines of a number and its text, as helpers.c prints them, and holds those of REFUSALS against REFUSAL_RS, which has the texts
+of bindings/rust. 0, 100 and 101 must have texts of their own, and all other numbers one text that no answer has. Prints each
+mismatch and ends with status 1 if there is one.
 """
 import re
 import sys
 from pathlib import Path
 
+REFUSALS = [*range(1, 20), 26]
 OWN = [0, 100, 101]
 
 
@@ -22,7 +23,7 @@ def of_rust(source):
 
 
 def mismatches(printed, rust):
-    if sorted(rust) != list(range(1, 20)):
+    if sorted(rust) != REFUSALS:
         yield f"bindings/rust has texts for {sorted(rust)}"
     for number, text in rust.items():
         if printed.get(number) != text:

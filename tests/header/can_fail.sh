@@ -29,9 +29,19 @@ greater() {
         "const $2: usize = $was;" "const $2: usize = $now;"
 }
 
+# another NAME: a number of a fit's rounds, greater by 1 in the header, in bindings/rust and in both.
+another() {
+    was="MICRO_PRICE_$1 $(number_of "$1")"
+    was_rust=$(grep -o "const $1: u64 = [0-9_]*" "$root/$rounds")
+    refused "one more: $1" $header "$was" "${was%0}1"
+    refused "one more in Rust: $1" $rounds "$was_rust" "${was_rust%0}1"
+    refused_in_both "one more in both: $1" $rounds "$was" "${was%0}1" "$was_rust" "${was_rust%0}1"
+}
+
 header=include/micro_price.h
 promises=docs/PROMISES.md
 rust=bindings/rust/src/sys.rs
+rounds=bindings/rust/src/rounds.rs
 passes
 refused "a function less" $header \
     'uint64_t micro_price_validate(const uint64_t *config, size_t config_len);' ''
@@ -46,6 +56,10 @@ refused "start and end exchanged" $header \
     'uint64_t start,
                                uint64_t end, double *scratch' 'uint64_t end,
                                uint64_t start, double *scratch'
+refused "the rounds exchanged" $header \
+    'uint64_t series_rounds,
+                                     uint64_t fallback_rounds,' 'uint64_t fallback_rounds,
+                                     uint64_t series_rounds,'
 refused "a length left out" $header \
     'const uint64_t *calls, size_t calls_len,' 'const uint64_t *calls,'
 refused "another result" $header \
@@ -56,6 +70,10 @@ refused "a header that needs another before it" $header \
     '#include <stdint.h>' ''
 refused "a parameter more in the code" crates/abi_counting_c/src/lib.rt \
     'pub extern "C" fn micro_price_validate(config: &[u64])' 'pub extern "C" fn micro_price_validate(config: &[u64], n: u64)'
+refused "the rounds exchanged in Rust" $rust \
+    'series_rounds: u64,
+        fallback_rounds: u64,' 'fallback_rounds: u64,
+        series_rounds: u64,'
 refused "totals without a sign in Rust" $rust \
     'move_half_ticks: *const i64,
         move_half_ticks_len: usize,
@@ -71,16 +89,33 @@ refused "a refusal that stands twice, without its reason" $header '12 (any other
 refused "a refusal left out of PROMISES.md" $promises '100, 1, 7, 8, 2, 3, 4, 5, 6, 0' '100, 1, 7, 8, 2, 3, 4, 5, 0'
 refused_in_both "a refusal left out of both" $promises '7, 14, 15  ' '7, 14  ' '| 7, 14, 15, 0 |' '| 7, 14, 0 |'
 refused_in_both "a refusal in another place in both" $promises '7, 14, 15  ' '7, 15, 14  ' '| 7, 14, 15, 0 |' '| 7, 15, 14, 0 |'
+refused "26 left out" $header '100, 1, 26, 7, 6, 9, 10, 11 ' '100, 1, 7, 6, 9, 10, 11     '
+refused "26 in another place" $header '100, 1, 26, 7, 6, 9, 10, 11 ' '100, 1, 7, 26, 6, 9, 10, 11 '
+refused "26 left out of PROMISES.md" $promises '| 100, 1, 26, 7, ' '| 100, 1, 7, '
+refused_in_both "26 left out of both" $promises '100, 1, 26, 7, 6, 9, 10, 11 ' '100, 1, 7, 6, 9, 10, 11     ' \
+    '| 100, 1, 26, 7, ' '| 100, 1, 7, '
+refused_in_both "26 in another place in both" $promises '100, 1, 26, 7, 6, 9, 10, 11 ' '100, 26, 1, 7, 6, 9, 10, 11 ' \
+    '| 100, 1, 26, 7, ' '| 100, 26, 1, 7, '
 refused_in_both "19 in another place in both, which no run meets" $promises '16 (none to fit), 17, 18, 19         rec' \
     '16 (none to fit), 19, 17, 18         rec' '2, 6, 16, 17, 18, 19, 16, 0' '2, 6, 16, 19, 17, 18, 16, 0'
 refused_in_both "19 left out of both, which no run meets" $promises '16 (none to fit), 17, 18, 19         rec' \
     '16 (none to fit), 17, 18             rec' '2, 6, 16, 17, 18, 19, 16, 0' '2, 6, 16, 17, 18, 16, 0'
 refused "a table that the header does not name as written" $header \
     '2, 6                                 rec, stay, moved, move_half_ticks' '2, 6                                 rec, stay, moved'
-refused "scratch that is said to stay at 16" $header \
-    '16 (none inside the quotes)          scratch
-' '16 (none inside the quotes)          nothing
-'
+for fit in fit_counts fit_counts_with; do
+    refused "scratch that is said to stay at 16 of $fit" $header \
+        "16 (none inside the quotes)          scratch
+ *   0                                    scratch, model
+ */
+MICRO_PRICE_MUST_USE
+uint64_t micro_price_$fit(" "16 (none inside the quotes)          nothing
+ *   0                                    scratch, model
+ */
+MICRO_PRICE_MUST_USE
+uint64_t micro_price_$fit("
+done
+refused "scratch that is said to be written at 26" $header \
+    '100, 1, 26, 7, 6, 9, 10, 11          nothing' '100, 1, 26, 7, 6, 9, 10, 11          scratch'
 refused "memory that is never written" $header \
     '0                                    out
  */
@@ -124,6 +159,10 @@ refused "another default" $header 'MAX_QUOTE_GAP_MS 5000' 'MAX_QUOTE_GAP_MS 6000
 refused "another default in Rust" bindings/rust/src/config.rs 'MAX_QUOTE_GAP_MS: u64 = 5_000' 'MAX_QUOTE_GAP_MS: u64 = 60_000'
 refused_in_both "another default in both" bindings/rust/src/config.rs 'MAX_QUOTE_GAP_MS 5000' 'MAX_QUOTE_GAP_MS 60000' \
     'MAX_QUOTE_GAP_MS: u64 = 5_000' 'MAX_QUOTE_GAP_MS: u64 = 60_000'
+for number in MAX_SERIES_TERMS FALLBACK_HORIZON_MOVES SERIES_ROUNDS_LIMIT FALLBACK_ROUNDS_LIMIT; do
+    another $number
+done
+refused "26 with another's number" $header 'ROUNDS_OUT_OF_RANGE 26' 'ROUNDS_OUT_OF_RANGE 20'
 refused "another status" $header 'STATUS_RARE 1' 'STATUS_RARE 2'
 refused "another source" $header 'SOURCE_SPREAD_OUT_OF_RANGE 4' 'SOURCE_SPREAD_OUT_OF_RANGE 5'
 refused "a number that nothing has" $header '#define MICRO_PRICE_STATUS_RARE 1' '#define MICRO_PRICE_STATUS_RARE 1

@@ -138,6 +138,29 @@ static int fits(void) {
     return same(model, SLICE(example_model));
 }
 
+static uint64_t fit_with(uint64_t series_rounds, uint64_t fallback_rounds) {
+    return micro_price_fit_counts_with(SLICE(example_config), SLICE(rec), SLICE(stay), SLICE(moved), SLICE(totals), series_rounds,
+                                       fallback_rounds, SLICE(scratch), SLICE(model));
+}
+
+/* The series ends in its first round. Without rounds of the share it is F: 0 for states 0 and 2, which move to a Rare state. */
+static int fits_with_rounds(void) {
+    uint64_t *low = &model[ROW_SHARE];
+    uint64_t *high = &model[MICRO_PRICE_ROW_WORDS * 2 + ROW_SHARE];
+    scratch[3] = 4.0;
+    *low = 77;
+    if (fit_with(0, 0) != MICRO_PRICE_ROUNDS_OUT_OF_RANGE || fit_with(1, 101) != MICRO_PRICE_ROUNDS_OUT_OF_RANGE || *low != 77
+        || scratch[3] != 4.0)
+        return 0;
+    if (fit_with(1, 0) != 0 || *low != 0 || *high != 0 || scratch[3] != 0.0)
+        return 0;
+    *low = *high = ONE;
+    if (!same(model, SLICE(example_model)))
+        return 0;
+    *low = 77;
+    return fit_with(MICRO_PRICE_MAX_SERIES_TERMS, MICRO_PRICE_FALLBACK_HORIZON_MOVES) == 0 && same(model, SLICE(example_model));
+}
+
 static int checks(void) {
     uint64_t row = 77;
     uint64_t *bucket = &model[MICRO_PRICE_ROW_WORDS * 4 + ROW_BUCKET];
@@ -235,15 +258,17 @@ int main(void) {
         return 5;
     if (!fits())
         return 6;
-    if (!checks())
+    if (!fits_with_rounds())
         return 7;
-    if (!signals())
+    if (!checks())
         return 8;
-    if (!finds_windows())
+    if (!signals())
         return 9;
-    if (!calibrates())
+    if (!finds_windows())
         return 10;
-    if (!replays())
+    if (!calibrates())
         return 11;
+    if (!replays())
+        return 12;
     return 0;
 }

@@ -2,7 +2,7 @@
  *
  * A chain is a list of runs of one function. It starts from memory on which the condition of the function's first refusal holds, and
  * those of as many later refusals as can hold with it. After each run its cause is mended, alone unless a comment says otherwise, up
- * to the answer 0. The inputs are made from document 01's conditions and not from the header's lists. */
+ * to the answer 0. The inputs are made from the documents' conditions and not from the header's lists. */
 #ifndef LENT_H
 #define LENT_H
 

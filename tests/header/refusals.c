@@ -9,6 +9,7 @@ int main(void) {
     chain_of_save();
     chain_of_restore();
     chain_of_fit_counts();
+    chain_of_fit_counts_with();
     chain_of_check_model();
     chain_of_signal();
     chain_of_window_of();

@@ -12,6 +12,7 @@ void chain_of_observe(void);
 void chain_of_save(void);
 void chain_of_restore(void);
 void chain_of_fit_counts(void);
+void chain_of_fit_counts_with(void);
 void chain_of_check_model(void);
 void chain_of_signal(void);
 void chain_of_window_of(void);

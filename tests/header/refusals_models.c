@@ -1,4 +1,4 @@
-/* The chains of the fit, the model check and the signal. */
+/* The chains of the two fits, the model check and the signal. */
 #include "refusals.h"
 
 #include "document_01.h"
@@ -22,6 +22,18 @@ static void fit_counts(void) {
                                     lent.moved_len, c->move_half_ticks, lent.move_half_ticks_len, lent.scratch, lent.scratch_len,
                                     lent.model, lent.model_len);
     after_call("micro_price_fit_counts", answer);
+}
+
+static uint64_t series_rounds, fallback_rounds;
+
+static void fit_counts_with(void) {
+    const struct counts *c = &lent.counts;
+    uint64_t answer;
+    before_call();
+    answer = micro_price_fit_counts_with(lent.config, lent.config_len, c->rec, lent.rec_len, c->stay, lent.stay_len, c->moved,
+                                         lent.moved_len, c->move_half_ticks, lent.move_half_ticks_len, series_rounds,
+                                         fallback_rounds, lent.scratch, lent.scratch_len, lent.model, lent.model_len);
+    after_call("micro_price_fit_counts_with", answer);
 }
 
 static size_t mirror_of(size_t state) {
@@ -79,23 +91,23 @@ static void clear_rows(size_t first, size_t past) {
         }
 }
 
-static void run_fit(void) {
-    fit_counts();
+static void run_fit(void (*run)(void)) {
+    run();
     expect(scratch_is_zero(), "a fit leaves scratch all plus zero");
 }
 
 /* 16 by the least observations; 17, 18 and 19 by states that are cleared one after another; 16 by the only adjustment that is left,
  * which is then half the spread. */
-static void run_failed_fits(void) {
-    run_fit();
+static void run_failed_fits(void (*run)(void)) {
+    run_fit(run);
     lent.config[LEAST] = 1;
-    run_fit();
+    run_fit(run);
     clear_rows(2, 3);
-    run_fit();
+    run_fit(run);
     clear_rows(3, 4);
-    run_fit();
+    run_fit(run);
     clear_rows(4, 6);
-    run_fit();
+    run_fit(run);
     set_total(13, 2);
 }
 
@@ -111,21 +123,69 @@ static void lend_counts_of_fit(void) {
     break_counts(&lent.counts);
 }
 
-void chain_of_fit_counts(void) {
+/* 100 and 1. */
+static void run_bad_words_of_fit(void (*run)(void)) {
     lend_anything();
     lend_counts_of_fit();
     wrong_lengths(STATES);
     lend_bad_config();
-    run_wrong_config(fit_counts);
-    run_wrong_rec(fit_counts);
-    run_no_record(fit_counts);
-    run_bad_configs(fit_counts, fit_config);
-    run_wrong_slices_of_fit(fit_counts, STATES);
-    run_broken_counts(fit_counts, &lent.counts, BUCKETS_OF_FIT, STATES);
-    run_failed_fits();
-    run_fit();
+    run_wrong_config(run);
+    run_wrong_rec(run);
+    run_no_record(run);
+    run_bad_configs(run, fit_config);
+}
+
+/* From 7 on. */
+static void run_counts_of_fit(void (*run)(void)) {
+    run_wrong_slices_of_fit(run, STATES);
+    run_broken_counts(run, &lent.counts, BUCKETS_OF_FIT, STATES);
+    run_failed_fits(run);
+    run_fit(run);
     expect(left.model[MICRO_PRICE_ROW_WORDS * 13 + ROW_STATUS] == MICRO_PRICE_STATUS_CALIBRATED,
            "an adjustment of half the spread is inside the quotes");
+}
+
+void chain_of_fit_counts(void) {
+    run_bad_words_of_fit(fit_counts);
+    run_counts_of_fit(fit_counts);
+}
+
+static void lend_rounds(uint64_t series, uint64_t fallback) {
+    series_rounds = series;
+    fallback_rounds = fallback;
+}
+
+/* 26 by series rounds, by fallback rounds and by both; 2^32 + 1 and 2^32 are in the ranges by their lower halves. Mended by the
+ * most of both. */
+static void run_bad_rounds(void) {
+    static const uint64_t rounds[][2] = {{0, 100}, {10001, 0}, {((uint64_t)1 << 32) + 1, 0}, {UINT64_MAX, 10}, {10000, 101},
+                                         {1, (uint64_t)1 << 32}, {1, UINT64_MAX}, {0, 101}};
+    size_t i;
+    for (i = 0; i < COUNT_OF(rounds); i++) {
+        lend_rounds(rounds[i][0], rounds[i][1]);
+        fit_counts_with();
+    }
+    lend_rounds(10000, 100);
+}
+
+static uint64_t share_of(size_t state) {
+    return left.model[MICRO_PRICE_ROW_WORDS * state + ROW_SHARE];
+}
+
+/* All that moves in the end goes from state 13 and its mirror to the middle, which is Rare: the series ends in its first round, and
+ * the share is F, which is 0, or 1 from the first round on. */
+void chain_of_fit_counts_with(void) {
+    lend_rounds(0, 101);
+    run_bad_words_of_fit(fit_counts_with);
+    run_bad_rounds();
+    run_counts_of_fit(fit_counts_with);
+    expect(share_of(13) == ONE, "after 100 fallback rounds the share is 1");
+    lend_rounds(1, 1);
+    run_fit(fit_counts_with);
+    expect(share_of(13) == ONE && share_of(MIDDLE) == ONE, "after a fallback round the share is 1");
+    lend_rounds(1, 0);
+    run_fit(fit_counts_with);
+    expect(share_of(13) == 0 && share_of(mirror_of(13)) == 0 && share_of(MIDDLE) == ONE, "without a fallback round the share is F");
 }
 
 /* ---- the model check: n = 3, s = 2, tick 1, document 01's table */

@@ -3,8 +3,8 @@
 
 Holds the functions that TREE/include/micro_price.h declares against the symbols that ARCHIVE exports, and their parameters
 against crates/abi_*_c, which export them, and against bindings/rust/src/sys.rs, where Rust declares them. Holds the
-header's numbers against the crates that have them, against the constants of sys.rs, and its defaults against those of
-config.rs beside it. Prints each mismatch and ends with status 1 if there is one.
+header's numbers against the crates that have them, against the constants of sys.rs, and its defaults and limits against those
+of config.rs and rounds.rs beside it. Prints each mismatch and ends with status 1 if there is one.
 """
 import re
 import subprocess
@@ -19,8 +19,11 @@ RUN = {"CONFIG_WORDS", "RECORD_WORDS", "QUOTE_WORDS", "ROW_WORDS", "SIGNAL_WORDS
 # Numbers of the header that bindings/rust/src/sys.rs has by the same names.
 RUST = RUN | {"IMAGE_HEADER", "OTHER_CONFIGURATION"}
 
-# The defaults of a configuration, which bindings/rust/src/config.rs has by the same names.
-DEFAULTS = {"MIN_STATE_OBSERVATIONS", "MAX_QUOTE_GAP_MS"}
+# The defaults of a configuration, and those and the limits of a fit's rounds: files of bindings/rust have them by the same names.
+IN_FILES = {
+    "bindings/rust/src/config.rs": {"MIN_STATE_OBSERVATIONS", "MAX_QUOTE_GAP_MS"},
+    "bindings/rust/src/rounds.rs": {"MAX_SERIES_TERMS", "FALLBACK_HORIZON_MOVES", "SERIES_ROUNDS_LIMIT", "FALLBACK_ROUNDS_LIMIT"},
+}
 
 # Constants of crates: the header's name, the file, the constant, and how many of the header's units it counts: a form is words of 8 bytes.
 CONSTANTS = [
@@ -28,6 +31,10 @@ CONSTANTS = [
     ("OTHER_CONFIGURATION", "crates/history_replay/src/inner.rt", "OTHER_CONFIGURATION", 1),
     ("MIN_STATE_OBSERVATIONS", "crates/config/src/lib.rt", "MIN_STATE_OBSERVATIONS", 1),
     ("MAX_QUOTE_GAP_MS", "crates/config/src/lib.rt", "MAX_QUOTE_GAP_MS", 1),
+    ("MAX_SERIES_TERMS", "crates/fit_rounds/src/lib.rt", "MAX_SERIES_TERMS", 1),
+    ("FALLBACK_HORIZON_MOVES", "crates/fit_rounds/src/lib.rt", "FALLBACK_HORIZON_MOVES", 1),
+    ("SERIES_ROUNDS_LIMIT", "crates/fit_rounds/src/lib.rt", "SERIES_ROUNDS_LIMIT", 1),
+    ("FALLBACK_ROUNDS_LIMIT", "crates/fit_rounds/src/lib.rt", "FALLBACK_ROUNDS_LIMIT", 1),
     ("MAX_STATES", "crates/config/src/inner.rt", "MAX_STATES", 1),
     ("CONFIG_WORDS", "crates/config/src/inner.rt", "CONFIG_WORDS", 1),
     ("RECORD_WORDS", "crates/abi_encoding/src/lib.rt", "RECORD_WORDS", 1),
@@ -169,7 +176,6 @@ def main():
     header = in_header(text)
     code = "\n".join(file.read_text() for file in sorted((tree / "crates").glob("abi_*_c/src/*.rt")))
     rust = (tree / "bindings/rust/src/sys.rs").read_text()
-    defaults = constants((tree / "bindings/rust/src/config.rs").read_text())
     found = list(differences(header, declared(code, r'pub\s+extern\s+"C"\s+', c_parameters), "crates/abi_*_c"))
     found += differences(header, declared(rust, r"pub\s+", rust_parameters), "bindings/rust/src/sys.rs")
     symbols = exported(archive)
@@ -178,7 +184,9 @@ def main():
     ours, theirs, in_rust = numbers_in(text), numbers(tree), constants(rust)
     found += number_differences(ours.keys() - RUN | theirs.keys(), ours, theirs, "the crates")
     found += number_differences(RUST | in_rust.keys(), ours, in_rust, "bindings/rust/src/sys.rs")
-    found += number_differences(DEFAULTS | defaults.keys(), ours, defaults, "bindings/rust/src/config.rs")
+    for file, names in IN_FILES.items():
+        in_file = constants((tree / file).read_text())
+        found += number_differences(names | in_file.keys(), ours, in_file, file)
     for line in found:
         print(f"header: {line}", file=sys.stderr)
     if found or not header:

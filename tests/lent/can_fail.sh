@@ -26,7 +26,8 @@ store='
     *rec = taken.rec;'
 answer='
     Ok(taken.config)'
-fit='inner::fit_counts(*rec, tables, config, scratch, model)'
+fit='fit_counts_with(rec, tables, config, Rounds::default(), scratch, model)'
+fit_with='inner::fit_counts_with(*rec, tables, config, rounds, scratch, model)'
 window='let ends = recording::window_of(recording, start, end)?;'
 lengths='
     fit::inner::check_lengths(config, tables.view(), scratch.len(), model.len())?;'
@@ -56,8 +57,22 @@ prints_else lent "restore answers 12 to all" crates/image/src/lib.rt "$restore$s
     Err(Refusal::ImageLayout)"
 prints_else lent "fit_counts fits another record" crates/fit/src/lib.rt "$fit" "let mut other = *rec;
     other.counters.pairs = 0;
-    inner::fit_counts(other, tables, config, scratch, model)"
+    fit_counts_with(&other, tables, config, Rounds::default(), scratch, model)"
 prints_else lent "fit_counts answers 0 to all" crates/fit/src/lib.rt "$fit" "let _ = $fit;$fine"
+prints_else lent "fit_counts makes a round of the share less" crates/fit/src/lib.rt "$fit" \
+    "let mut rounds = Rounds::default();
+    rounds.fallback -= 1;
+    fit_counts_with(rec, tables, config, rounds, scratch, model)"
+prints_else lent "fit_counts_with fits another record" crates/fit/src/lib.rt "$fit_with" "let mut other = *rec;
+    other.counters.pairs = 0;
+    inner::fit_counts_with(other, tables, config, rounds, scratch, model)"
+prints_else lent "fit_counts_with answers 0 to all" crates/fit/src/lib.rt "$fit_with" "let _ = $fit_with;$fine"
+prints_else lent "fit_counts_with exchanges the rounds" crates/fit/src/lib.rt "$fit_with" \
+    "let exchanged = Rounds {
+        series: rounds.fallback,
+        fallback: rounds.series,
+    };
+    inner::fit_counts_with(*rec, tables, config, exchanged, scratch, model)"
 prints_else lent "calibrate_micro_price does not store the record" crates/evening/src/lib.rt "$evening" "let mut other = *rec;
     inner::count_and_fit(&mut other, tables, config, part, scratch, model)"
 prints_else lent "calibrate_micro_price answers 15 to all" crates/evening/src/lib.rt "$window$lengths$part
@@ -81,6 +96,8 @@ prints_else by_value "the program by value keeps the record after a restore" tes
     "shared::show_restored(rt, Ok(taken.config));
             taken.rec" "shared::show_restored(rt, Ok(taken.config));
             rec"
+prints_else by_value "the program by value fits with the default rounds" tests/lent/by_value.rt.txt \
+    "shared::rounds_of(line)," "Rounds::default(),"
 prints_else lent "day.txt has another last bit in a float of the model table" tests/lent/day.txt \
     "bff0000000000000 3ff0000000000000 0" "bff0000000000001 3ff0000000000000 0"
 exit $missed

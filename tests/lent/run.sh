@@ -6,7 +6,7 @@ set -eu
 here=$(cd "$(dirname "$0")" && pwd)
 tree=$(cd "${1:-$here/../..}" && pwd)
 day=$tree/tests/lent/day.txt
-uses="refusals floats config quotes tally calibrator image_words image_layout image fit recording evening history_replay program_text program_lines abi_encoding cases_shared"
+uses="refusals floats config quotes tally calibrator image_words image_layout image fit_rounds fit recording evening history_replay program_text program_lines abi_encoding cases_shared"
 work=$(mktemp -d)
 trap 'rm -rf "$work"' EXIT
 
