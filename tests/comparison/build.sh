@@ -145,6 +145,7 @@ crate recorded "$build/recorded.rs"
 
 rm -rf "$build/driver" "$build/micro_price"
 cp -pR "$here/driver" "$build/driver"
+cp -p "$here/fit_cases.txt" "$build/fit_cases.txt"
 cp -pR "$root/bindings/rust" "$build/micro_price"
 put "$build/Cargo.toml" <<'TOML'
 [workspace]

@@ -2,7 +2,7 @@
 # Compares the port with the Rust, from a fresh machine on: proves and writes the port's archive, builds both sides, runs the
 # program compare with the arguments given, and ends in 0 only if nothing differs but what docs/DIFFERENCES.md lists.
 #   compare.sh          the full run, some minutes
-#   compare.sh --quick  about half a minute
+#   compare.sh --quick  about a minute
 # MICRO_PRICE_LIB=ARCHIVE compare.sh takes this archive and does not call rt.
 set -eu
 here=$(cd "$(dirname "$0")" && pwd)

@@ -1,10 +1,11 @@
-//! Faults that can be put into the port's answers, to show that the comparison notices them. None is on unless the program is
-//! asked for it. Whether a call is hit depends on its arguments alone, so that a smaller input can be looked for.
+//! Faults that can be put into the port's answers, and one into the fit computed plainly, to show that the comparison notices
+//! them. None is on unless the program is asked for it. Whether a call is hit depends on its arguments alone, so that a smaller
+//! input can be looked for.
 
 use std::sync::OnceLock;
 
 /// Every fault and what it does.
-pub const FAULTS: [(&str, &str); 31] = [
+pub const FAULTS: [(&str, &str); 42] = [
     (
         "new_judges_record",
         "new: words that are no record's are answered 100",
@@ -36,6 +37,50 @@ pub const FAULTS: [(&str, &str); 31] = [
     ("observations", "fit: one observation more"),
     ("scratch_left", "fit: scratch is not cleared"),
     ("fit_refusal", "fit: 18 is answered as 17"),
+    (
+        "plain_share_9_rounds",
+        "the fit computed plainly, beside a fit: the share has 9 rounds",
+    ),
+    (
+        "twenty_six_before_one",
+        "fit with rounds: 1 is answered as 26 where that holds too",
+    ),
+    (
+        "twenty_six_after_seven",
+        "fit with rounds: 26 is answered as 7 where that holds too",
+    ),
+    (
+        "twenty_six_writes",
+        "fit with rounds: a refusal 26 clears scratch",
+    ),
+    (
+        "zero_series_rounds_accepted",
+        "fit with rounds: 0 series rounds are taken as 1",
+    ),
+    (
+        "rounds_10001_accepted",
+        "fit with rounds: 10,001 series rounds are taken as 10,000",
+    ),
+    (
+        "fallback_101_accepted",
+        "fit with rounds: 101 fallback rounds are taken as 100",
+    ),
+    (
+        "low_word_of_rounds_judged",
+        "fit with rounds: only the low 32 bits of each number are taken",
+    ),
+    (
+        "fallback_rounds_ignored",
+        "fit with rounds: the fallback rounds are always 10",
+    ),
+    (
+        "rounds_exchanged",
+        "fit with rounds: series and fallback rounds are exchanged",
+    ),
+    (
+        "cut_series_as_whole",
+        "fit with rounds: a series that its rounds cut is answered as with 10,000",
+    ),
     ("row_one_on", "model check: the row after the bad one"),
     ("model_accepted", "model check: 13 is answered as 0"),
     ("signal_sign", "signal: the adjustment is negated"),

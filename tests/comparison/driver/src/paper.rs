@@ -8,6 +8,13 @@ pub const MAX_STATES: u64 = 256;
 /// The largest gap of a configuration that names none (document 02, Q-5).
 pub const DEFAULT_GAP: u64 = 5_000;
 
+/// Most series rounds of a fit (document 02, Q-10); the least is 1.
+pub const MOST_SERIES_ROUNDS: u64 = 10_000;
+/// Most fallback rounds; the least is 0.
+pub const MOST_FALLBACK_ROUNDS: u64 = 100;
+/// The refusal of other rounds.
+pub const ROUNDS_OUT_OF_RANGE: u64 = 26;
+
 /// Words by which a configuration is lent.
 pub const CONFIG_WORDS: usize = 5;
 /// Words of a record.
@@ -62,6 +69,25 @@ impl Config {
         let buckets = usize::try_from(self.buckets).expect("number of buckets");
         let bucket = state % buckets;
         state - bucket + (buckets - 1 - bucket)
+    }
+}
+
+/// How many rounds a fit does: of the series at most, of the share exactly.
+#[derive(Debug, Clone, Copy, PartialEq, Eq)]
+pub struct Rounds {
+    pub series: u64,
+    pub fallback: u64,
+}
+
+impl Rounds {
+    /// Those of a fit that is given none, and of the Rust's.
+    pub const DEFAULT: Self = Self {
+        series: 10_000,
+        fallback: 10,
+    };
+
+    pub fn in_range(&self) -> bool {
+        (1..=MOST_SERIES_ROUNDS).contains(&self.series) && self.fallback <= MOST_FALLBACK_ROUNDS
     }
 }
 

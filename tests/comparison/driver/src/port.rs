@@ -2,8 +2,8 @@
 
 use crate::faults::hits;
 use crate::paper::{
-    CALL_WORDS, CONFIG_WORDS, COUNTERS, Config, Memory, QUOTE_WORDS, Quote, RECORD_WORDS,
-    ROW_WORDS, SIGNAL_WORDS,
+    CALL_WORDS, CONFIG_WORDS, COUNTERS, Config, MOST_FALLBACK_ROUNDS, MOST_SERIES_ROUNDS, Memory,
+    QUOTE_WORDS, Quote, RECORD_WORDS, ROUNDS_OUT_OF_RANGE, ROW_WORDS, Rounds, SIGNAL_WORDS,
 };
 use crate::plain::{self, CONFIG_AT, HEADER, STATES_AT};
 use micro_price::sys;
@@ -223,6 +223,73 @@ impl Lent {
         fit_faults(&self.stay, scratch, model, answer)
     }
 
+    /// A fit with these rounds.
+    pub fn fit_with(&self, rounds: Rounds, scratch: &mut [f64], model: &mut [u64]) -> u64 {
+        let given = rounds_given(&self.stay, rounds);
+        let answer = self.fit_given(given, scratch, model);
+        self.fit_with_faults(rounds, scratch, model, answer)
+    }
+
+    fn fit_given(&self, rounds: Rounds, scratch: &mut [f64], model: &mut [u64]) -> u64 {
+        // SAFETY: as in `start_new`.
+        unsafe {
+            sys::micro_price_fit_counts_with(
+                self.config.as_ptr(),
+                self.config.len(),
+                self.rec.as_ptr(),
+                self.rec.len(),
+                self.stay.as_ptr(),
+                self.stay.len(),
+                self.moved.as_ptr(),
+                self.moved.len(),
+                self.totals.as_ptr(),
+                self.totals.len(),
+                rounds.series,
+                rounds.fallback,
+                scratch.as_mut_ptr(),
+                scratch.len(),
+                model.as_mut_ptr(),
+                model.len(),
+            )
+        }
+    }
+
+    fn fit_with_faults(
+        &self,
+        rounds: Rounds,
+        scratch: &mut [f64],
+        model: &mut [u64],
+        answer: u64,
+    ) -> u64 {
+        let hit = |name: &str| hits(name, &self.stay);
+        match answer {
+            1 if !rounds.in_range() && hit("twenty_six_before_one") => ROUNDS_OUT_OF_RANGE,
+            ROUNDS_OUT_OF_RANGE if hit("twenty_six_writes") => {
+                scratch.fill(0.0);
+                answer
+            }
+            ROUNDS_OUT_OF_RANGE if hit("twenty_six_after_seven") => {
+                let (other, _) = self.fit_by_default(scratch, model);
+                if other == 7 { 7 } else { answer }
+            }
+            18 if hit("cut_series_as_whole") => {
+                let (other, table) = self.fit_by_default(scratch, model);
+                if other == 0 {
+                    model.copy_from_slice(&table);
+                }
+                other
+            }
+            _ => answer,
+        }
+    }
+
+    /// What the port answers to the default rounds with room of these lengths, and the model table that it leaves.
+    fn fit_by_default(&self, scratch: &[f64], model: &[u64]) -> (u64, Vec<u64>) {
+        let (mut scratch, mut model) = (scratch.to_vec(), model.to_vec());
+        let answer = self.fit_given(Rounds::DEFAULT, &mut scratch, &mut model);
+        (answer, model)
+    }
+
     /// An evening; `invalid` is written as the port writes it.
     pub fn calibrate(
         &mut self,
@@ -317,6 +384,33 @@ impl Room {
             model: vec![0x5555; plain::model_length(states)],
         }
     }
+}
+
+/// The rounds that the port is given in place of those asked for.
+fn rounds_given(stay: &[u64], rounds: Rounds) -> Rounds {
+    let hit = |name: &str| hits(name, stay);
+    let mut given = rounds;
+    if rounds.series == 0 && hit("zero_series_rounds_accepted") {
+        given.series = 1;
+    }
+    if rounds.series == MOST_SERIES_ROUNDS + 1 && hit("rounds_10001_accepted") {
+        given.series = MOST_SERIES_ROUNDS;
+    }
+    if rounds.fallback == MOST_FALLBACK_ROUNDS + 1 && hit("fallback_101_accepted") {
+        given.fallback = MOST_FALLBACK_ROUNDS;
+    }
+    if hit("low_word_of_rounds_judged") {
+        given.series %= 1 << 32;
+        given.fallback %= 1 << 32;
+    }
+    if rounds.fallback <= MOST_FALLBACK_ROUNDS && hit("fallback_rounds_ignored") {
+        given.fallback = Rounds::DEFAULT.fallback;
+    }
+    if hit("rounds_exchanged") {
+        given.series = rounds.fallback;
+        given.fallback = rounds.series;
+    }
+    given
 }
 
 fn fit_faults(stay: &[u64], scratch: &mut [f64], model: &mut [u64], answer: u64) -> u64 {

@@ -11,14 +11,15 @@ pub enum Operation {
     Restore,
     Replay,
     Fit,
+    FitWith,
     ModelCheck,
     Signal,
     Window,
     Evening,
 }
 
-/// The operations, with the answers that the Rust can give too.
-pub const OPERATIONS: [(Operation, &str, &[u64]); 11] = [
+/// The operations, with the answers that a full run has to see: those that the Rust can give too, and all of a fit with rounds.
+pub const OPERATIONS: [(Operation, &str, &[u64]); 12] = [
     (Operation::Validate, "configuration", &[0, 1]),
     (Operation::New, "new", &[0, 1]),
     (Operation::Quote, "quote", &[0, 3, 4, 5]),
@@ -26,6 +27,11 @@ pub const OPERATIONS: [(Operation, &str, &[u64]); 11] = [
     (Operation::Restore, "restore", &[0, 1, 8, 9, 10, 11]),
     (Operation::Replay, "replay", &[]),
     (Operation::Fit, "fit", &[0, 1, 9, 10, 11, 16, 17, 18, 19]),
+    (
+        Operation::FitWith,
+        "fit, rounds",
+        &[0, 1, 6, 7, 9, 10, 11, 16, 17, 18, 19, 26, 100],
+    ),
     (Operation::ModelCheck, "model check", &[0, 1, 7, 13]),
     (Operation::Signal, "signal", &[0, 3, 4]),
     (Operation::Window, "window", &[0, 14, 15]),
@@ -107,7 +113,7 @@ const SOURCES: [&str; 5] = [
     "SpreadOutOfRange",
 ];
 
-/// The least count, in a full run, of each answer, status and source that the Rust can give.
+/// The least count, in a full run, of each answer in `OPERATIONS` and of each status and source.
 const LEAST: u64 = 100;
 
 #[derive(Default, Clone)]
@@ -170,7 +176,7 @@ impl Seen {
         text
     }
 
-    /// What the Rust can give and was seen too seldom.
+    /// What a full run has to see and was seen too seldom.
     pub fn too_seldom(&self) -> Vec<String> {
         let mut seldom = Vec::new();
         for (operation, name, answers) in OPERATIONS {

@@ -4,8 +4,8 @@ use std::process::ExitCode;
 use std::time::Instant;
 
 use driver::compare::{
-    Compared, Difference, Run, calls, evenings, fits, images, lengths, models, quotes, signals,
-    windows,
+    Compared, Difference, Run, calls, evenings, fits, images, lengths, models, quotes, rounds,
+    signals, windows,
 };
 use driver::faults;
 use driver::random::Random;
@@ -15,12 +15,12 @@ const USAGE: &str = "\
 compare [--quick] [--seed SEED] [--only PART] [--fault NAME]
   --quick       about a tenth of the volume
   --seed SEED   other random numbers (1 unless said)
-  --only PART   one part: quotes calls images fits models signals windows evenings lengths
+  --only PART   one part: quotes calls images fits models signals windows evenings lengths rounds
   --fault NAME  with this fault put into the port's answers, which has to be noticed; `--fault list` names them";
 
 type Part = (&'static str, fn(&mut Run) -> Compared);
 
-const PARTS: [Part; 9] = [
+const PARTS: [Part; 10] = [
     ("quotes", quotes::run),
     ("calls", calls::run),
     ("images", images::run),
@@ -30,6 +30,7 @@ const PARTS: [Part; 9] = [
     ("windows", windows::run),
     ("evenings", evenings::run),
     ("lengths", lengths::run),
+    ("rounds", rounds::run),
 ];
 
 struct Options {

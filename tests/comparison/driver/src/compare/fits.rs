@@ -8,10 +8,12 @@ use market_maker_rs::analytics::micro_price::MicroPriceModel;
 use rust_decimal::Decimal;
 
 use crate::compare::{Case, Compared, Difference, Run, models, signals, smallest};
+use crate::faults::hits;
 use crate::inputs::quotes::{self as inputs, LARGE, MIDDLE};
 use crate::inputs::tables;
-use crate::paper::{Config, Memory, ROW_WORDS, Record, Refusal, Row, bits};
+use crate::paper::{Config, Memory, ROW_WORDS, Record, Refusal, Rounds, Row, bits};
 use crate::plain;
+use crate::plain_fit::Fits;
 use crate::port::{Lent, Room};
 use crate::rust::{self, Fitted, Unrestored};
 use crate::seen::{Operation, Rule, Seen};
@@ -40,11 +42,19 @@ pub fn run(run: &mut Run) -> Compared {
 }
 
 fn compare(run: &mut Run, memory: &Memory) -> Compared {
-    compare_fit(run.seen, memory).map_err(|found| shrunk(memory, found))
+    compare_fit(run.seen, memory).map_err(|found| {
+        shrunk(memory, found, |less| {
+            compare_fit(&mut Seen::default(), less)
+        })
+    })
 }
 
 /// A difference, told with the tables of as few pairs as still give one.
-fn shrunk(memory: &Memory, found: Difference) -> Difference {
+pub fn shrunk(
+    memory: &Memory,
+    found: Difference,
+    compare: impl Fn(&Memory) -> Compared,
+) -> Difference {
     let states = memory.totals.len();
     let all = memory.stay.iter().chain(&memory.moved).enumerate();
     let cells: Vec<usize> = all
@@ -68,7 +78,7 @@ fn shrunk(memory: &Memory, found: Difference) -> Difference {
         if plain::walk(memory).answer == 0 {
             less.record.pairs = ((sum(&less.stay) + sum(&less.moved)) / 2) as u64;
         }
-        compare_fit(&mut Seen::default(), &less)
+        compare(&less)
     })
 }
 
@@ -99,6 +109,7 @@ pub fn compare_fit(seen: &mut Seen, memory: &Memory) -> Compared {
     seen.volume("fits", 1);
     same_fit(&case, &wanted, answer, &room)?;
     case.holds("the lent counts are as they were", lent == Lent::of(memory))?;
+    same_plain(&case, &wanted, memory)?;
     let rust = fitted.ok().and_then(|fitted| fitted.model);
     if let (Some(model), Some(rust)) = (&wanted.model, &rust) {
         let statuses = model.chunks(ROW_WORDS).map(|row| row[6]);
@@ -125,6 +136,20 @@ pub fn same_fit(case: &Case, wanted: &Wanted, answer: u64, room: &Room) -> Compa
     case.holds(
         "scratch is cleared, or as it was at a refusal before the fit",
         scratch,
+    )
+}
+
+/// The fit computed plainly, with the default rounds, is as wanted too.
+fn same_plain(case: &Case, wanted: &Wanted, memory: &Memory) -> Compared {
+    let mut room = Room::used(memory.totals.len());
+    let mut rounds = Rounds::DEFAULT;
+    if hits("plain_share_9_rounds", &memory.stay) {
+        rounds.fallback = 9;
+    }
+    let answer = Fits::of(memory).fit(rounds, &mut room.scratch, &mut room.model);
+    case.holds(
+        "the fit computed plainly is the Rust's",
+        same_fit(case, wanted, answer, &room).is_ok(),
     )
 }
 

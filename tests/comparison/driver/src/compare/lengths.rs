@@ -45,7 +45,7 @@ fn other_length(random: &mut Random, length: usize) -> usize {
 }
 
 /// A calibrator's memory with up to two things wrong with it.
-fn bent(random: &mut Random) -> Lent {
+pub fn bent(random: &mut Random) -> Lent {
     let mut lent = Lent::of(&images::some_memory(random, &SMALL[..5]));
     for _ in 0..random.below(3) {
         let any = random.word() as usize;
@@ -105,13 +105,23 @@ fn overwritten(lent: &Lent) -> Result<Memory, u64> {
 fn fitting(lent: &Lent, config: &Config) -> Option<Memory> {
     let states = config.states();
     let lengths = [lent.stay.len(), lent.moved.len(), lent.totals.len()];
-    (lengths == [states * states, states * states, states]).then(|| Memory {
+    (lengths == [states * states, states * states, states]).then(|| held(lent, config))
+}
+
+fn held(lent: &Lent, config: &Config) -> Memory {
+    Memory {
         config: *config,
         record: Record::of_words(&lent.rec),
         stay: lent.stay.clone(),
         moved: lent.moved.clone(),
         totals: lent.totals.clone(),
-    })
+    }
+}
+
+/// The memory that is lent, of any configuration and with tables of any lengths; none at 100.
+pub fn read(lent: &Lent) -> Option<Memory> {
+    let words = right_words(lent) && is_record(&lent.rec);
+    words.then(|| held(lent, &Config::of_words(&lent.config)))
 }
 
 fn print(lent: &Lent) -> String {
@@ -240,7 +250,7 @@ fn restore(run: &mut Run, before: &Lent) -> Compared {
 // ---- the fit and the evening
 
 /// Room of the right lengths, or not.
-fn some_room(random: &mut Random, states: usize) -> Room {
+pub fn some_room(random: &mut Random, states: usize) -> Room {
     let mut room = Room::used(states);
     match random.below(6) {
         0 => room

@@ -7,6 +7,7 @@ pub mod images;
 pub mod lengths;
 pub mod models;
 pub mod quotes;
+pub mod rounds;
 pub mod sides;
 pub mod signals;
 pub mod windows;
