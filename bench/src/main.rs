@@ -156,6 +156,26 @@ fn fits(name: &str, counts: &plain::Calibrator, expected: Option<u64>, runs: usi
     );
 }
 
+/// The port's fit of `counts` with one round of the series and none of the share, which ends in 18.
+fn one_round(counts: &plain::Calibrator) {
+    let states = counts.config.states();
+    let port = Port::of(counts);
+    let mut scratch = vec![0.0; sys::scratch_length(states)];
+    let mut table = vec![0; sys::model_length(states)];
+    let mut times = Vec::new();
+    for run in 0..=RUNS {
+        let mut answer = 0;
+        let [time] = timed(
+            run,
+            [&mut || answer = port.fit_one_round(black_box(&mut scratch), &mut table)],
+        );
+        assert_eq!(answer, 18, "the port's answer");
+        times.push(time);
+    }
+    let time = readable(median(times[1..].iter().copied()));
+    println!("The port's fit with one round, N = {states}: {time}.");
+}
+
 fn source_number(source: SignalSource) -> u64 {
     match source {
         SignalSource::MicroPrice => 0,
@@ -374,6 +394,9 @@ fn main() {
     }
     for counts in &one_sided {
         fits("a fit that ends in 18", counts, Some(18), SLOW_RUNS);
+    }
+    for counts in &counts {
+        one_round(counts);
     }
     println!();
     print_heads(["copy and check", "plain Rust"]);

@@ -121,6 +121,31 @@ impl Port {
             )
         }
     }
+
+    /// With one round of the series and none of the share.
+    pub fn fit_one_round(&self, scratch: &mut [f64], model: &mut [u64]) -> u64 {
+        // SAFETY: as above.
+        unsafe {
+            sys::micro_price_fit_counts_with(
+                self.config.as_ptr(),
+                self.config.len(),
+                self.rec.as_ptr(),
+                self.rec.len(),
+                self.stay.as_ptr(),
+                self.stay.len(),
+                self.moved.as_ptr(),
+                self.moved.len(),
+                self.totals.as_ptr(),
+                self.totals.len(),
+                1,
+                0,
+                scratch.as_mut_ptr(),
+                scratch.len(),
+                model.as_mut_ptr(),
+                model.len(),
+            )
+        }
+    }
 }
 
 #[inline(always)]
