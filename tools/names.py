@@ -12,7 +12,7 @@ RESTS = {"crates/program_text/specs/Reading.antt"}
 # Functions that are not operations, and whose promises PROMISES.md has.
 ALSO = {("program_report", "evening_text"), ("program_text", "read_text"), ("fit_marking", "mark_no_price_move")}
 # Crates whose src/lib.rt has only inner functions.
-HELPERS = re.compile(r"basics|tally|count_check|cases_.*|fit_.+|program_.*|image_.*|abi_encoding|floats|refusals")
+HELPERS = re.compile(r"basics|tally|count_check|cases_.*|fit_(?!rounds).+|program_.*|image_.*|abi_encoding|floats|refusals")
 
 DEFINITION = re.compile(r"^\s*(?:abbrev pub|unfoldable pub|pub record|pub data)\s+(\S+)")
 TYPE = re.compile(r"^\s*(?:pub )?(?:struct|enum) (\w+)")
