@@ -9,34 +9,43 @@ ghost use Rattle.quotes.specs.Inner.{Accepted};
 ghost use Rattle.quotes.specs.Quotes.{check_quote};
 ghost use Rattle.tally.specs.Entries.{Tables};
 ghost use Rattle.tally.specs.Events.{skip};
-ghost use Rattle.tally.specs.Lent.{tables_of, tables_in, SameSlices};
+ghost use Rattle.tally.specs.Lent.{tables_of, SameSlices};
 ghost use Rattle.calibrator.specs.Record.{memory_with, kind_of, left_by};
 ghost use Rattle.calibrator.specs.declared.Record.{Record};
 ghost use Rattle.calibrator.specs.Inner.{skip_count, add_skip, add_pair, accepted, unless_refused, entry_of, Countable, judge_pair, counted_as};
-ghost use Rattle.calibrator.specs.Observe.{event_from, lent_wrong, check_lent, made, observed};
+ghost use Rattle.calibrator.specs.Observe.{event_from, wrong_lengths, check_table_lengths, lent_wrong, made, observed};
 
 use super::{Counters, Record};
 use config::MicroPriceConfig;
 use quotes::{Pair, Skip, TopOfBook};
 use refusals::Refusal;
-use tally::{LentTables, PairEntry, TablesView};
+use tally::{LentTables, PairEntry};
 
-pub fn wrong_lengths(n: usize, tables: TablesView<'_>) -> bool
+// Of lengths alone, here and in the next: a caller need not have the tables.
+pub fn wrong_lengths(n: usize, stay: usize, moved: usize, move_half_ticks: usize) -> bool
     requires { n ≤ 256 }
-    ensures { result ≡ lent_wrong n (tables_in tables.entry) }
+    ensures { result ≡ wrong_lengths n stay moved move_half_ticks }
 {
     let cells = n * n;
-    (tables.stay.len() != cells)
-        | (tables.moved.len() != cells)
-        | (tables.move_half_ticks.len() != n)
+    (stay != cells) | (moved != cells) | (move_half_ticks != n)
 }
 
 // The first of refusals 1 and 7.
-pub fn check_table_lengths(config: MicroPriceConfig, tables: TablesView<'_>) -> Result<(), Refusal>
-    ensures { result ≡ check_lent config (tables_in tables.entry) }
+pub fn check_table_lengths(
+    config: MicroPriceConfig,
+    stay: usize,
+    moved: usize,
+    move_half_ticks: usize,
+) -> Result<(), Refusal>
+    ensures { result ≡ check_table_lengths config stay moved move_half_ticks }
 {
     config.validate()?;
-    if wrong_lengths(config::inner::state_count(config), tables) {
+    if wrong_lengths(
+        config::inner::state_count(config),
+        stay,
+        moved,
+        move_half_ticks,
+    ) {
         return Err(Refusal::SliceLength);
     }
     Ok(())
@@ -150,7 +159,7 @@ fn count_pair(
     if !tally::may_count(counters.pairs) {
         return Err(Refusal::CountLimit);
     }
-    if !tally::pair_within(n, tables, e) {
+    if !tally::pair_within(n, tables.view(), e) {
         return Err(Refusal::CountLimit);
     }
     tally::enter_pair(n, tables, e);
@@ -197,7 +206,12 @@ pub fn observe(
     ensures left { left_by rec result (tables_of tables.new) ≡ observed config (memory_with rec (tables_of tables.old)) quote }
     ensures same_slices { SameSlices tables.old tables.new }
 {
-    check_table_lengths(config, tables.view())?;
+    check_table_lengths(
+        config,
+        tables.stay.len(),
+        tables.moved.len(),
+        tables.move_half_ticks.len(),
+    )?;
     let Some(last) = rec.previous else {
         return first_quote(rec, config, quote);
     };
@@ -210,7 +224,12 @@ pub fn new(tables: &mut LentTables<'_>, config: MicroPriceConfig) -> Result<Reco
     ensures left { (rec : Record) → left_by rec result (tables_of tables.new) ≡ made config (memory_with rec (tables_of tables.old)) }
     ensures same_slices { SameSlices tables.old tables.new }
 {
-    check_table_lengths(config, tables.view())?;
+    check_table_lengths(
+        config,
+        tables.stay.len(),
+        tables.moved.len(),
+        tables.move_half_ticks.len(),
+    )?;
     tables.stay.fill(0);
     tables.moved.fill(0);
     tables.move_half_ticks.fill(0);

@@ -19,10 +19,11 @@ impl Text {
     // Adds what the bytes of a case stand for, as far as there is room.
     fn add(&mut self, part: &[u8]) {
         for b in part {
-            if self.len < TEXT_BYTES {
-                self.bytes[self.len] = meant(*b);
-                self.len += 1;
+            if self.len == TEXT_BYTES {
+                return;
             }
+            self.bytes[self.len] = meant(*b);
+            self.len += 1;
         }
     }
 }
@@ -64,8 +65,13 @@ fn run_line(rt: &impl Print, line: &[u8], text: &mut Text) {
         }
         Some(b'e') => show(rt, &text.bytes[..text.len]),
         Some(_) => {
+            let part = after_space(line);
             for _ in 0..count_of(line) {
-                text.add(after_space(line));
+                // Nothing more is added.
+                if part.is_empty() || text.len == TEXT_BYTES {
+                    break;
+                }
+                text.add(part);
             }
         }
     }

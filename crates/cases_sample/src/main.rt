@@ -2,7 +2,7 @@
 // whose form tests/comparison/make_sample.sh describes.
 #![tactic(auto)]
 
-ghost use Rattle.std.specs.Prelude.{◌≤◌};
+ghost use Rattle.std.specs.Prelude.{◌≡◌, ◌+◌, ◌*◌, ◌≤◌};
 
 use calibrator::Record;
 use cases_shared::reading::{config_of, count_at, parts_at, read_full, word_at};
@@ -270,7 +270,7 @@ fn run_on(
 // The floats that a fit of n states asks for: `fit` judges that number, and has no function that makes it. The rooms are fixed (no heap), and each program has
 // its own.
 fn scratch_length(n: u8) -> usize
-    ensures { result ≤ 132600 }
+    ensures { (result ≡ n * (2 * n + 10)) × (result ≤ 132600) }
 {
     let n = usize::from(n);
     n * (2 * n + 10)
@@ -316,18 +316,19 @@ fn run_case(rt: &impl Print, words: &[u64]) {
     let _ = rt.println("");
 }
 
-// Runs the case of a line. Behind its words there is room for as many parts as any number says, which are zeros.
-fn run(rt: &impl Print, line: &[u8]) {
-    let mut words = [0; 10000];
+// Runs the case of a line. Behind its words there is room for as many parts as any number says, which are zeros and stay zeros.
+fn run(rt: &impl Print, line: &[u8], words: &mut [u64; 10000]) {
+    words[..MOST_WORDS].fill(0);
     cases_shared::reading::read_line(line, &mut words[..MOST_WORDS]);
-    run_case(rt, &words);
+    run_case(rt, words);
 }
 
 // There is room for all cases.
 fn main(rt: HostRuntime) {
     let mut input = [0; 144698];
     let got = read_full(&mut rt.stdin(), &mut input);
+    let mut words = [0; 10000];
     for line in input[..got].split_inclusive(|b| *b == b'\n') {
-        run(&rt, line);
+        run(&rt, line, &mut words);
     }
 }

@@ -72,6 +72,7 @@ pub fn config_of(words: &[u64]) -> MicroPriceConfig {
 // numbers give: so a place goes with the words.
 pub fn parts_at<const N: usize>(words: &[u64], at: usize) -> &[[u64; N]]
     requires { 0 < N }
+    ensures { length result.now < 1024 }
 {
     match words.get(at..) {
         Some([_, rest @ ..]) => {

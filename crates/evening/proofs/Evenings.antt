@@ -21,7 +21,7 @@ use Rattle.evening.specs.Evening.{EveningOutcome, evening_refusal, counted, even
 use Rattle.fit.specs.Inner.{check_slices}
 
 -- a window that is found is not refused
-window-fine : (k : Check) (e f : Ends) → window_unless k e ≡ Ok f → Ok tt ≡ k
+pub window-fine : (k : Check) (e f : Ends) → window_unless k e ≡ Ok f → Ok tt ≡ k
 window-fine (Ok _) e f p = refl
 window-fine (Err r) e f p = absurd (zero-not-one cc)
 

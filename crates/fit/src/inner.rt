@@ -196,7 +196,12 @@ pub fn check_lengths(
 ) -> Result<(), Refusal>
     ensures { result ≡ check_slices config (tables_in tables.entry) scratch model }
 {
-    calibrator::inner::check_table_lengths(config, tables)?;
+    calibrator::inner::check_table_lengths(
+        config,
+        tables.stay.len(),
+        tables.moved.len(),
+        tables.move_half_ticks.len(),
+    )?;
     if wrong_fit_lengths(config::inner::state_count(config), scratch, model) {
         return Err(Refusal::SliceLength);
     }

@@ -1,5 +1,5 @@
 -- What reading a call says of its words, and that the call that is read is the call of the list.
-use Prim.Native.Nat.{ℕ, ◌+◌, ◌-◌, ◌*◌, ◌<◌}
+use Prim.Native.Nat.{ℕ, ◌+◌, ◌-◌, ◌*◌, ◌≤◌, ◌<◌}
 use mathlib.Core.Path.{◌≡◌, refl, sym, ap, ◌∙◌}
 use mathlib.Core.Bool.{Bool, true, false, cond, and-false, true≢false}
 use mathlib.Core.List.{List}
@@ -37,11 +37,12 @@ module _ (room : ℕ) (w : List ℕ) (k : ℕ) where
   pub read-err : {r : Result CodedCall BadEncoding} → r ≡ decoded room w k → {d : BadEncoding} → r ≡ Err d → is_call room w k ≡ false
   read-err read e = is_err (is_call room w k) (coded w k) (sym e ∙ read)
 
-  -- each call of a list that is well coded is a call
-  pub coded-call : (answers : ℕ) → well_coded room answers w ≡ true → k < answers → is_call room w k ≡ true
+  -- a list that is well coded has each call whole, and it is one
+  pub coded-call : (answers : ℕ) → well_coded room answers w ≡ true → k < answers → (6 * k + 6 ≤ length w) × (is_call room w k ≡ true)
   coded-call answers e h =
       let p = both (eqb (length w) (6 * answers)) (all_from (is_call room w) 0 answers) e in
-      all-at (is_call room w) 0 answers k p.1 (omega arith) (omega arith)
+      let l = eqb-true (length w) (6 * answers) p.0 in
+      (omega arith, all-at (is_call room w) 0 answers k p.1 (omega arith) (omega arith))
 
 -- a list that is well coded has six words for each answer
 pub coded-long : (room answers : ℕ) (w : List ℕ) → well_coded room answers w ≡ true → length w ≡ 6 * answers

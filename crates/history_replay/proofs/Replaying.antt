@@ -37,7 +37,7 @@ module _ {c : MicroPriceConfig} {w : List ℕ} {s₀ : Site} {ns₀ : List ℕ} 
     -- it is a call
     pub replaying-reads : {d : BadEncoding} {G : Type 0} → x ≡ Err d → G
     replaying-reads e =
-        let is : is_call (length s.room) w k ≡ true = rw r.room-kept (coded-call (length s₀.room) w k (length ns₀) r.coded h) in
+        let is : is_call (length s.room) w k ≡ true = rw r.room-kept (coded-call (length s₀.room) w k (length ns₀) r.coded h).1 in
         absurd (true≢false (sym is ∙ read-err (length s.room) w k read-call e))
 
     -- and is made

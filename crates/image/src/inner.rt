@@ -35,7 +35,12 @@ fn check_save(
 ) -> Result<(), Refusal>
     ensures { result ≡ save_refusal config (memory_with rec (tables_in tables.entry)) long }
 {
-    calibrator::inner::check_table_lengths(config, tables)?;
+    calibrator::inner::check_table_lengths(
+        config,
+        tables.stay.len(),
+        tables.moved.len(),
+        tables.move_half_ticks.len(),
+    )?;
     if long != image_layout::image_length(config) {
         return Err(Refusal::SliceLength);
     }
@@ -84,7 +89,12 @@ fn check_held(header: &Header<'_>, tables: TablesView<'_>) -> Result<(), Refusal
     let config = header.config();
     let rec = header.record();
     let n = config::inner::state_count(config);
-    if calibrator::inner::wrong_lengths(n, tables) {
+    if calibrator::inner::wrong_lengths(
+        n,
+        tables.stay.len(),
+        tables.moved.len(),
+        tables.move_half_ticks.len(),
+    ) {
         return Err(Refusal::SliceLength);
     }
     if is_broken(config, rec.previous) {

@@ -16,7 +16,7 @@ use quotes::TopOfBook;
 const OLDEST: usize = 20;
 
 // The bytes that every header has.
-const LEAST: usize = 8 * OLDEST;
+pub const LEAST: usize = 8 * OLDEST;
 
 // The words of the header that save writes, its form, and its length in bytes.
 pub const FORM: usize = OLDEST;

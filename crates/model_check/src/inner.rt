@@ -1,4 +1,4 @@
-// Inner functions of the model check; `ModelTable` and `has_status` are for the signal too. Where one has a `requires`, each caller proves it.
+// Inner functions of the model check; `ModelTable`, `half_spread_of` and `has_status` are for the signal too. Where one has a `requires`, each caller proves it.
 ghost use Rattle.std.specs.Prelude.{◌≡◌, ◌&&◌, ℕ, ◌*◌, ◌<◌, length};
 ghost use Rattle.refusals.specs.Refusals.{first_from};
 ghost use Rattle.config.specs.Configuration.{states};
@@ -26,6 +26,15 @@ pub fn has_status(e: StateEstimate, status: StateStatus) -> bool
     ensures { result ≡ has_status status e }
 {
     e.status == u64::from(status)
+}
+
+// Half the spread of state i, of a configuration alone: a caller need not have a table.
+pub fn half_spread_of(config: MicroPriceConfig, i: usize) -> f64
+    requires { Valid config × (i < states config) }
+    ensures { result ≡ half_spread_of config i }
+{
+    let n = config.imbalance_buckets as usize;
+    floats::inner::half_spread(config.tick_size, (i / n + 1) as u64)
 }
 
 fn is_placed(config: MicroPriceConfig, level: Level, i: usize, e: StateEstimate) -> bool
@@ -115,8 +124,7 @@ impl<'a> ModelTable<'a> {
         requires { i < states self.now.config }
         ensures { result ≡ half_spread_of self.now.config i }
     {
-        let n = self.config.imbalance_buckets as usize;
-        floats::inner::half_spread(self.config.tick_size, (i / n + 1) as u64)
+        half_spread_of(self.config, i)
     }
 
     #[tactic(auto, unfolding(crate::specs::Check::row_fine))]

@@ -1,6 +1,6 @@
 // Inner functions: for the crates above, not for users. `observe_recording` asks nothing; where another has a `requires`, each caller proves it.
 ghost use Rattle.std.specs.Prelude.{◌≡◌, true, Err, ◌*◌, ◌/◌, ◌≤◌, length};
-ghost use Rattle.basics.specs.Lists.{count};
+ghost use Rattle.basics.specs.Lists.{count, bit};
 ghost use Rattle.tally.specs.Lent.{tables_of, SameSlices};
 ghost use Rattle.calibrator.specs.Record.{memory_with};
 ghost use Rattle.recording.specs.Recording.{quotes_of, sorted};
@@ -54,6 +54,14 @@ fn is_invalid(refusal: Refusal) -> bool
     matches!(refusal, Refusal::BadQuote | Refusal::OffTick)
 }
 
+// What a refused quote adds to the number of invalid quotes.
+fn invalid_in(refusal: Refusal) -> u64
+    ensures counted { result ≡ bit (is_invalid (Err refusal)) }
+    ensures one { result ≤ 1 }
+{
+    u64::from(matches!(refusal, Refusal::BadQuote | Refusal::OffTick))
+}
+
 // Gives each quote of a recording to the calibrator. Answers 3 and 4 are passed over and counted; any other refusal ends it.
 pub fn observe_recording(
     rec: &mut Record,
@@ -77,7 +85,7 @@ pub fn observe_recording(
             if !is_invalid(refusal) {
                 return Recorded { answer, invalid };
             }
-            invalid += 1;
+            invalid += invalid_in(refusal);
         }
     }
     let answer = Ok(());

@@ -7,7 +7,7 @@ ghost use Rattle.std.specs.Prelude.{◌≡◌, not, false, ◌+◌, ◌*◌, ◌
 ghost use Rattle.basics.specs.Lists.{cell_index};
 ghost use Rattle.tally.specs.Totals.{add_at};
 ghost use Rattle.tally.specs.Entries.{bump, enter_both, touched_over};
-ghost use Rattle.tally.specs.Lent.{tables_of, SameSlices};
+ghost use Rattle.tally.specs.Lent.{tables_of, tables_in, SameSlices};
 ghost use Rattle.tally.specs.Inner.{forth_of, back_of, Placed, cells_over, totals_over, most_change};
 ghost use Rattle.tally.specs.Limits.{over_counter};
 
@@ -108,16 +108,15 @@ fn add_totals(t: &mut [i64], a: usize, b: usize, d: i64)
 }
 
 // Whether every touched cell and total would be within its limit after both entries.
-pub fn pair_within(n: usize, tables: &LentTables<'_>, e: PairEntry) -> bool
-    requires { Placed n e (tables_of tables.now) }
-    ensures { result ≡ not (touched_over n (forth_of e) (back_of e) (enter_both n (forth_of e) (back_of e) (tables_of tables.now))) }
+pub fn pair_within(n: usize, tables: TablesView<'_>, e: PairEntry) -> bool
+    requires { Placed n e (tables_in tables) }
+    ensures { result ≡ not (touched_over n (forth_of e) (back_of e) (enter_both n (forth_of e) (back_of e) (tables_in tables.entry))) }
 {
     let a = cell(n, e.from, e.to);
     let b = cell(n, e.mirror_from, e.mirror_to);
     let d = totals::change(e.mid_from, e.mid_to);
-    let seen = tables.view();
-    let cells = if d == 0 { seen.stay } else { seen.moved };
-    cells_within(cells, a, b) & totals_within(seen.move_half_ticks, e.from, e.mirror_from, d)
+    let cells = if d == 0 { tables.stay } else { tables.moved };
+    cells_within(cells, a, b) & totals_within(tables.move_half_ticks, e.from, e.mirror_from, d)
 }
 
 // Enters a pair and its mirror.

@@ -9,5 +9,6 @@ enter_pair-requires c =
     let a = c.args in
     let p = c.requires in (
       pair-placed a.config a.pair c.state_count-n.ensures c.entry_of-e.ensures p.0 p.1 p.2,
-      within-limit c.pair_within.result _ c.pair_within.ensures c.if-not-pair_within.false,
+      within-limit c.pair_within.result _ (rw (c.view.ensures.stay, c.view.ensures.moved, c.view.ensures.totals) at c.pair_within.ensures)
+          c.if-not-pair_within.false,
     )

@@ -9,8 +9,6 @@ use Rattle.calibrator.proofs.inner.observe.Goals as goal
 pub next_quote-requires : goal.next_quote-requires
 next_quote-requires c =
     let a = c.args in
-    let judged =
-    rw (c.view.ensures.stay, c.view.ensures.moved, c.view.ensures.totals) at (sym c.check_table_lengths.ensures ∙ c.in_ok-check_table_lengths.was) in
-    let v = tables-known a.config _ _ _ judged in
+    let v = tables-known a.config _ _ _ (sym c.check_table_lengths.ensures ∙ c.in_ok-check_table_lengths.was) in
     let p = pair-known a.config _ a.quote (sym c.judge_pair.ensures ∙ c.in_ok-judge_pair.was) in
     (v.0, p.0, p.1, p.2, v.1)

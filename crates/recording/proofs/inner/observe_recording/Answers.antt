@@ -1,9 +1,8 @@
 use mathlib.Core.Path.{refl, sym, ap, ◌∙◌}
-use mathlib.Core.Bool.{Bool, not}
-use Prim.Native.Nat.{◌+◌}
+use mathlib.Core.Bool.{not}
+use Prim.Native.Nat.{ℕ, ◌+◌}
 use native.Mathlib.Omega.{arith}
 use borrow.Author.Tests.{eqb-true}
-use Rattle.basics.specs.Lists.{bit}
 use Rattle.tally.proofs.Lent.{same-again}
 use Rattle.recording.proofs.Chunks.{five-quote}
 use Rattle.recording.proofs.Runs.{observing-on, observing-stop, observing-end}
@@ -26,7 +25,7 @@ loop-words-preserved c =
       | in-Err+else-not-is_invalid w ↦
           let e = sym w.is_invalid.ensures ∙ w.if-not-is_invalid.false in (
             observing-on c.loop-words.invariant.0 (omega arith) quoted w.in-Err.ensures.left
-                (ap not e) (w.invalid-is ∙ ap (λ (b : Bool). c.loop-words.invalid + bit b) (sym e)),
+                (ap not e) (w.invalid-is ∙ ap (λ (n : ℕ). c.loop-words.invalid + n) w.invalid_in-invalid.ensures.counted),
             same,
           )
       | in_default w ↦
